@@ -1,0 +1,4 @@
+pub mod Firsts
+mod Quick
+pub mod Given
+pub mod Read
