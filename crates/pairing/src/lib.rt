@@ -1,0 +1,318 @@
+// A pairing by itself: for each id its partner, and how many ids have one. It is one value of fixed size. Each operation
+// takes the pairing by value and checks it before all else; `pair` and `augment` hand back the next one, or the same one
+// where they are refused, and the others, which take a copy as well, answer what was asked. `partners` has the table of
+// partners, `checks` the refusals in the order of their numbers.
+use crate::checks::first;
+use crate::checks::id_at;
+use crate::checks::id_refusal;
+use crate::checks::mate_refusal;
+use crate::checks::pair_refusal;
+use crate::checks::pairing_refusal;
+use crate::checks::path_refusal;
+use crate::checks::refuses;
+use crate::partners::IDS;
+use crate::partners::free;
+use crate::partners::is_paired;
+use crate::partners::partner_of;
+use limits::NONE;
+use limits::ROUTES;
+use limits::Told;
+ghost use mathlib.Core.Path.{_≡_};
+ghost use mathlib.Core.Logic.{_≢_};
+ghost use mathlib.Core.Bool.{true, cond};
+ghost use Prim.Native.Nat.{ℕ, _+_, _/_, _<_};
+ghost use lib.ListN.{getD, set};
+ghost use Rattle.limits.specs.Limits.{routes, none};
+ghost use Rattle.limits.specs.Answer.{told};
+ghost use Rattle.pairing.specs.Partners.{Sound, mateOf, countOf, fresh, paired, augmented, isLower};
+ghost use Rattle.pairing.specs.Reply.{toldOf, pathReply};
+ghost use Rattle.pairing.specs.Answers.{kept, pairAnswer, augmentAnswer, orderAnswer, hasNodeAnswer, mateAnswer, edgesIn, edgesAnswer};
+ghost use Rattle.theory.specs.Count.{bit};
+
+mod checks;
+mod partners;
+
+// The most pairs that there can be.
+pub const HALF: usize = ROUTES / 2;
+
+// Why an operation is refused.
+pub enum Refusal {
+    // nothing to refuse
+    Accepted,
+    // 10: a partner that is neither none nor below the limit, is the id itself, or does not name the id back
+    BadPartner { id: u32, value: u32 },
+    // 10: a kept count that is not the number of paired ids
+    WrongCount { count: u32 },
+    // 13: a path with an odd count
+    OddPath { count: usize },
+    // 14: an id that is not below the limit
+    NoSuchId { position: usize, id: u32 },
+    // 15: an id paired with itself; the position is that of the pair's first id
+    SelfPair { position: usize, id: u32 },
+    // 16: the partner of an unpaired id
+    Unpaired { id: u32 },
+}
+
+// For each id its partner, or none, and how many ids have a partner.
+pub struct Pairing {
+    pub partner: [u32; ROUTES],
+    pub count: u32,
+}
+
+// What `pair` and `augment` answer: the next pairing, or the same where they are refused.
+pub struct Next {
+    pub refusal: Refusal,
+    pub pairing: Pairing,
+}
+
+// What `order` answers: how many ids are paired.
+pub struct Order {
+    pub refusal: Refusal,
+    pub ids: u32,
+}
+
+// What `has_node` answers.
+pub struct Node {
+    pub refusal: Refusal,
+    pub paired: bool,
+}
+
+// What `mate` answers: the partner.
+pub struct Mate {
+    pub refusal: Refusal,
+    pub id: u32,
+}
+
+// What `edges` answers: a count beside two tables, in which the places past the count hold none.
+pub struct Edges {
+    pub refusal: Refusal,
+    pub count: usize,
+    pub lower: [u32; HALF],
+    pub upper: [u32; HALF],
+}
+
+// The answer with this number and these details.
+fn answer(no: u32, a: u64, b: u64) -> Told
+    ensures { λ r. ⌜ r ≡ told no a b ⌝ }
+{
+    Told { no, a, b }
+}
+
+// Number, A and B of a reply.
+pub fn tell(r: Refusal) -> Told
+    ensures { λ t. ⌜ t ≡ toldOf r ⌝ }
+{
+    match r {
+        Refusal::Accepted => answer(0, 0, 0),
+        Refusal::BadPartner { id, value } => answer(10, id as u64, value as u64),
+        Refusal::WrongCount { count } => answer(10, ROUTES as u64, count as u64),
+        Refusal::OddPath { count } => answer(13, count as u64, 0),
+        Refusal::NoSuchId { position, id } => answer(14, position as u64, id as u64),
+        Refusal::SelfPair { position, id } => answer(15, position as u64, id as u64),
+        Refusal::Unpaired { id } => answer(16, id as u64, 0),
+    }
+}
+
+// a and b made partners, and their old partners free; the answer is how many ids are paired then. The count before it and
+// what was freed say so: nothing is counted anew.
+fn join(t: &mut [u32; ROUTES], count: u32, a: u32, b: u32) -> u32
+    requires { ⌜ Sound (now t) × (count ≡ countOf (now t)) × (a < routes) × (b < routes) × (a ≢ b) ⌝ }
+    ensures partners { λ _. ⌜ now (t .exit) ≡ paired (now (t .entry)) a b ⌝ }
+    ensures counted { λ r. ⌜ r ≡ countOf (paired (now (t .entry)) a b) ⌝ }
+{
+    let from_a = free(t, a);
+    let from_b = free(t, b);
+    let i = a as usize;
+    let j = b as usize;
+    t[i] = b;
+    t[j] = a;
+    count - from_a - from_b + 2
+}
+
+// The ids at positions 0 and 1 of the path made partners, then those at 2 and 3, and so on; the answer is how many ids
+// are paired then.
+fn join_all(t: &mut [u32; ROUTES], count: u32, path: &[u32]) -> u32
+    requires { ⌜ Sound (now t) × (count ≡ countOf (now t)) × (pathReply (now path) ≡ Refusal.Accepted) ⌝ }
+    ensures partners { λ _. ⌜ now (t .exit) ≡ augmented (now (t .entry)) (now (path .entry)) ⌝ }
+    ensures counted { λ r. ⌜ r ≡ countOf (augmented (now (t .entry)) (now (path .entry))) ⌝ }
+{
+    let pairs = path.len() / 2;
+    let mut n = count;
+    let mut k = 0;
+    while k < pairs {
+        n = join(t, n, id_at(path, 2 * k), id_at(path, 2 * k + 1));
+        k += 1;
+    }
+    n
+}
+
+// The pair of which id is the lower one, if there is such a pair, put at place n of the tables; the answer is the place
+// after it.
+fn list(
+    t: &[u32; ROUTES],
+    id: u32,
+    n: usize,
+    lower: &mut [u32; HALF],
+    upper: &mut [u32; HALF],
+) -> usize
+    requires { ⌜ (isLower (now t) id ≡ true → n < routes / 2) ⌝ }
+    ensures place { λ r. ⌜ r ≡ n + bit (isLower (now (t .entry)) id) ⌝ }
+    ensures lowers { λ _. ⌜ now (lower .exit) ≡ cond (isLower (now (t .entry)) id) (set (now (lower .entry)) n id) (now (lower .entry)) ⌝ }
+    ensures uppers { λ _. ⌜ now (upper .exit) ≡ cond (isLower (now (t .entry)) id) (set (now (upper .entry)) n (mateOf (now (t .entry)) id)) (now (upper .entry)) ⌝ }
+{
+    let m = partner_of(t, id);
+    if IDS <= m {
+        return n;
+    }
+    if m <= id {
+        return n;
+    }
+    lower[n] = id;
+    upper[n] = m;
+    n + 1
+}
+
+// All pairs, by lower id, rising.
+fn list_all(t: &[u32; ROUTES]) -> Edges
+    requires { ⌜ Sound (now t) ⌝ }
+    ensures { λ r. ⌜ r ≡ edgesIn (now (t .entry)) ⌝ }
+{
+    let mut lower = [NONE; HALF];
+    let mut upper = [NONE; HALF];
+    let mut n = 0;
+    let mut i = 0;
+    while i < IDS {
+        n = list(t, i, n, &mut lower, &mut upper);
+        i += 1;
+    }
+    Edges {
+        refusal: Refusal::Accepted,
+        count: n,
+        lower,
+        upper,
+    }
+}
+
+impl Pairing {
+    // A fresh pairing: all places unpaired.
+    pub fn new() -> Self
+        ensures whole { λ r. ⌜ r ≡ kept fresh ⌝ }
+        ensures every { λ r. ⌜ ((i : ℕ) → i < routes → getD (r .partner) i 0 ≡ none) ⌝ }
+        ensures nobody { λ r. ⌜ r .count ≡ 0 ⌝ }
+    {
+        Pairing {
+            partner: [NONE; ROUTES],
+            count: 0,
+        }
+    }
+
+    // How many ids are paired: twice the number of pairs.
+    pub fn order(self) -> Order
+        ensures { λ r. ⌜ r ≡ orderAnswer self ⌝ }
+    {
+        let partner = self.partner;
+        let refusal = pairing_refusal(&partner, self.count);
+        if refuses(refusal) {
+            return Order { refusal, ids: 0 };
+        }
+        Order {
+            refusal: Refusal::Accepted,
+            ids: self.count,
+        }
+    }
+
+    // Whether an id is paired.
+    pub fn has_node(self, id: u32) -> Node
+        ensures { λ r. ⌜ r ≡ hasNodeAnswer self id ⌝ }
+    {
+        let partner = self.partner;
+        let refusal = first(pairing_refusal(&partner, self.count), id_refusal(0, id));
+        if refuses(refusal) {
+            return Node {
+                refusal,
+                paired: false,
+            };
+        }
+        Node {
+            refusal: Refusal::Accepted,
+            paired: is_paired(&partner, id),
+        }
+    }
+
+    // Two ids made partners; the partners that they had are free.
+    pub fn pair(self, sid: u32, tid: u32) -> Next
+        ensures { λ r. ⌜ r ≡ pairAnswer self sid tid ⌝ }
+    {
+        let mut partner = self.partner;
+        let refusal = first(
+            pairing_refusal(&partner, self.count),
+            pair_refusal(sid, tid),
+        );
+        if refuses(refusal) {
+            return Next {
+                refusal,
+                pairing: self,
+            };
+        }
+        let count = join(&mut partner, self.count, sid, tid);
+        Next {
+            refusal: Refusal::Accepted,
+            pairing: Pairing { partner, count },
+        }
+    }
+
+    // The pairs by lower id, rising.
+    pub fn edges(self) -> Edges
+        ensures { λ r. ⌜ r ≡ edgesAnswer self ⌝ }
+    {
+        let partner = self.partner;
+        let refusal = pairing_refusal(&partner, self.count);
+        if refuses(refusal) {
+            return Edges {
+                refusal,
+                count: 0,
+                lower: [NONE; HALF],
+                upper: [NONE; HALF],
+            };
+        }
+        list_all(&partner)
+    }
+
+    // The ids of the path made partners, two by two, in order. An id that stands twice keeps its last pair.
+    pub fn augment(self, path: &[u32]) -> Next
+        ensures { λ r. ⌜ r ≡ augmentAnswer self (now (path .entry)) ⌝ }
+    {
+        let mut partner = self.partner;
+        let refusal = first(pairing_refusal(&partner, self.count), path_refusal(path));
+        if refuses(refusal) {
+            return Next {
+                refusal,
+                pairing: self,
+            };
+        }
+        let count = join_all(&mut partner, self.count, path);
+        Next {
+            refusal: Refusal::Accepted,
+            pairing: Pairing { partner, count },
+        }
+    }
+
+    // The partner of an id.
+    pub fn mate(self, id: u32) -> Mate
+        ensures { λ r. ⌜ r ≡ mateAnswer self id ⌝ }
+    {
+        let partner = self.partner;
+        let refusal = first(
+            pairing_refusal(&partner, self.count),
+            mate_refusal(&partner, id),
+        );
+        if refuses(refusal) {
+            return Mate { refusal, id: 0 };
+        }
+        let mate = partner_of(&partner, id);
+        Mate {
+            refusal: Refusal::Accepted,
+            id: mate,
+        }
+    }
+}
