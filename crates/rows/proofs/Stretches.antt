@@ -68,16 +68,14 @@ place-has row x = same-test (ltb (place row x) (length row)) (has row x)
     lt-ltb _ _ (least-found (length row) (λ i. eqb (getD row i none) x) (r .0) (r .1) (eq-eqb _ _ (r .2))))
 
 -- whether w stands in the row of v, by its first place in the stretch
-module _ (s row : List ℕ) (n v w p : ℕ) (en : n ≡ order s) (lv : v < n) (lw : w < n) (er : row ≡ stretch s v) (ep : p ≡ place (numbers row) w) where
-  found : (b : Bool) → ltb p (length row / 4) ≡ b → joined (graphOf s) v w ≡ b
-  found b h =
-      let e : ltb p (length row / 4) ≡ has (numbers row) w = rw (ep, ← numbers-length row) (place-has (numbers row) w) in
-      sym (rw er at e) ∙ rw er at h
+pub place-joined : (s row : List ℕ) (v w p : ℕ) → row ≡ stretch s v → p ≡ place (numbers row) w → joined (graphOf s) v w ≡ ltb p (length row / 4)
+place-joined s row v w p er ep = rw (ep, ← numbers-length row, place-has (numbers row) w, er)
 
+module _ (s row : List ℕ) (n v w p : ℕ) (en : n ≡ order s) (lv : v < n) (lw : w < n) (er : row ≡ stretch s v) (ep : p ≡ place (numbers row) w) where
   pub edge-there : p < length row / 4 → edge.Joined ≡ edgeOf (graphOf s) v w
   unfolding edgeOf
-  edge-there h = rw (← en, lt-ltb v n lv, lt-ltb w n lw, found true (lt-ltb _ _ h))
+  edge-there h = rw (← en, lt-ltb v n lv, lt-ltb w n lw, place-joined s row v w p er ep, lt-ltb _ _ h)
 
   pub edge-not : length row / 4 ≤ p → edge.Apart ≡ edgeOf (graphOf s) v w
   unfolding edgeOf
-  edge-not h = rw (← en, lt-ltb v n lv, lt-ltb w n lw, found false (le-ltb _ _ h))
+  edge-not h = rw (← en, lt-ltb v n lv, lt-ltb w n lw, place-joined s row v w p er ep, le-ltb _ _ h)

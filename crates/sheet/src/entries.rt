@@ -4,6 +4,7 @@ use crate::Reply;
 use crate::marks::MARKS;
 use crate::marks::mark;
 use crate::marks::marked;
+use crate::refuses;
 use limits::ROUTES;
 use rows::order;
 use rows::row;
@@ -13,24 +14,8 @@ ghost use Prim.Native.Nat.{_≤_};
 ghost use Rattle.limits.specs.Limits.{routes};
 ghost use Rattle.words.specs.Words.{numbers};
 ghost use Rattle.rows.specs.Sheet.{order, graphOf};
-ghost use Rattle.sheet.specs.Reply.{refuses, first, rowsReply, loopReply};
+ghost use Rattle.sheet.specs.Reply.{first, rowsReply, loopReply};
 ghost use Rattle.sheet.specs.Marks.{markRow, markRows, kept, keep, lastPlaces, unkept, quickEntry, quickRow, quickRows, quickLoop};
-
-// Whether a reply refuses.
-fn refuses(r: Reply) -> bool
-    ensures { λ b. ⌜ b ≡ refuses r ⌝ }
-{
-    match r {
-        Reply::Accepted => false,
-        Reply::Short => true,
-        Reply::TooMany { n: _ } => true,
-        Reply::Contents => true,
-        Reply::UnknownId { entry: _ } => true,
-        Reply::DuplicateEdge { row: _, entry: _ } => true,
-        Reply::MissingEdge { entry: _, row: _ } => true,
-        Reply::Loop { route: _ } => true,
-    }
-}
 
 // Every entry of row v marked.
 fn mark_row(row: &[u8], v: u32, t: &mut [u32; MARKS])

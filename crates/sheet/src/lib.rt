@@ -10,7 +10,7 @@ ghost use mathlib.Core.Path.{_≡_};
 ghost use Prim.Native.Nat.{_+_};
 ghost use lib.Dec.{leb};
 ghost use Rattle.words.specs.Words.{word};
-ghost use Rattle.sheet.specs.Reply.{replyOf, shaped, toldOf};
+ghost use Rattle.sheet.specs.Reply.{refuses, replyOf, shaped, toldOf};
 ghost use Rattle.sheet.specs.Size.{Size};
 ghost use Rattle.theory.specs.Count.{all};
 
@@ -70,6 +70,22 @@ pub fn tell(r: Reply) -> Told
             a: route as u64,
             b: 0,
         },
+    }
+}
+
+// Whether a reply refuses.
+pub fn refuses(r: Reply) -> bool
+    ensures { λ b. ⌜ b ≡ refuses r ⌝ }
+{
+    match r {
+        Reply::Accepted => false,
+        Reply::Short => true,
+        Reply::TooMany { n: _ } => true,
+        Reply::Contents => true,
+        Reply::UnknownId { entry: _ } => true,
+        Reply::DuplicateEdge { row: _, entry: _ } => true,
+        Reply::MissingEdge { entry: _, row: _ } => true,
+        Reply::Loop { route: _ } => true,
     }
 }
 

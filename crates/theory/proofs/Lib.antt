@@ -9,3 +9,7 @@ pub mod Bound
 pub mod Largest
 pub mod Plan
 pub mod Samples
+pub mod Sets
+pub mod Ring
+pub mod Forest
+pub mod Search

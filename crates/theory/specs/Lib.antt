@@ -15,3 +15,5 @@ pub mod Pairing
 pub mod Largest
 -- a plan of sessions
 pub mod Plan
+-- the search for one pair more
+pub mod Search

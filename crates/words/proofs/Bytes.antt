@@ -3,18 +3,18 @@ use Prim.Native.Nat.{ℕ, zero, suc, _+_, _*_, _/_, _%_, _≤_, _<_}
 use mathlib.Core.Path.{_≡_, refl, sym, ap, _∙_}
 use mathlib.Core.Logic.{_≢_, _⊎_, inl, inr, ⊎-elim}
 use mathlib.Core.Bool.{Bool, true, false, cond}
-use mathlib.Core.List.{List, [], _∷_, map}
+use mathlib.Core.List.{List, [], _∷_, _++_, map, append-assoc, append-nil}
 use native.Mathlib.Omega.{arith}
 use native.Mathlib.Numerals.{add-one}
 use lib.Dec.{ltb}
-use lib.ListN.{length, getD, set, take, drop, length-map, length-set, length-take, length-drop, drop-of-length-le, List·getD-map, List·getD-eq-default}
-use lib.Seq.{drop-cons, getD-set-same, getD-set-other, getD-take, getD-drop}
+use lib.ListN.{length, getD, set, take, drop, length-append, length-map, length-set, length-take, length-drop, drop-of-length-le, List·getD-map, List·getD-eq-default}
+use lib.Seq.{sets, sets-eq, take-append-seam, drop-append-add, drop-drop, drop-cons, getD-set-same, getD-set-other, getD-take, getD-drop}
 use borrow.Author.Tests.{lt-ltb, le-ltb, ltb-true, ltb-false}
 use Rattle.limits.specs.Limits.{none}
 use Rattle.theory.specs.Parts.{run}
 use Rattle.theory.proofs.Count.{cases}
 use Rattle.theory.proofs.Parts.{run-length, run-at}
-use Rattle.words.specs.Words.{four, word, numbers, putWord, over}
+use Rattle.words.specs.Words.{four, word, numbers, putWord, putLong, bytes4, bytes8, bytesTo, longsOf, over}
 
 -- ---- a number that is there, and one that is not
 
@@ -144,3 +144,84 @@ put-other s k x j ne =
     first away =
         let z : 4 * j + 0 ≡ 4 * j = omega arith in
         rw (rw z at (away 0 (omega arith)), away 1 (omega arith), away 2 (omega arith), away 3 (omega arith))
+
+-- ---- numbers put one after the other
+
+-- bytes stored from the place on where q begins
+sets-after : (p q bs : List ℕ) (n : ℕ) → length p ≡ n → length bs ≤ length q → sets (p ++ q) n bs ≡ (p ++ bs) ++ drop (length bs) q
+sets-after p q bs n e h =
+    rw (← e, sets-eq bs (p ++ q) (length p) (omega (arith, length-append p q)), take-append-seam p q, drop-append-add p q (length bs), append-assoc p bs (drop (length bs) q))
+
+-- after the numbers that were put, the next: of four bytes, and of eight
+pub put-next : (p q : List ℕ) (k x : ℕ) → length p ≡ 4 * k → 4 ≤ length q → putWord (p ++ q) k x ≡ (p ++ bytes4 x) ++ drop 4 q
+unfolding putWord
+put-next p q k x e h =
+    rw (lt-ltb k (length (p ++ q) / 4) (omega (arith, length-append p q)), place 2, place 1, add-one (4 * k))
+    (sets-after p q (bytes4 x) (4 * k) e h)
+  where
+    place : (i : ℕ) → 4 * k + suc i ≡ suc (4 * k + i)
+    place i = omega arith
+
+pub put-next-long : (p q : List ℕ) (k x : ℕ) → length p ≡ 8 * k → 8 ≤ length q → putLong (p ++ q) k x ≡ (p ++ bytes8 x) ++ drop 8 q
+unfolding putLong
+put-next-long p q k x e h =
+    rw (lt-ltb k (length (p ++ q) / 8) (omega (arith, length-append p q)), place 6, place 5, place 4, place 3, place 2, place 1, add-one (8 * k))
+    (sets-after p q (bytes8 x) (8 * k) e h)
+  where
+    place : (i : ℕ) → 8 * k + suc i ≡ suc (8 * k + i)
+    place i = omega arith
+
+-- ---- a buffer filled number by number
+
+pub bytesTo-length : (f : ℕ → ℕ) (k : ℕ) → length (bytesTo f k) ≡ 4 * k
+unfolding bytesTo
+bytesTo-length f zero = refl
+bytesTo-length f (suc k) = length-append (bytesTo f k) (bytes4 (f k)) ∙ omega (arith, bytesTo-length f k)
+
+-- the invariant of a loop that puts f 0, f 1, ..: what is put, and then what was there
+pub fill-none : (f : ℕ → ℕ) (s : List ℕ) → s ≡ bytesTo f 0 ++ drop 0 s
+unfolding bytesTo
+fill-none f s = refl
+
+pub fill-again : (f : ℕ → ℕ) (s t : List ℕ) (k x : ℕ) → 4 * k + 4 ≤ length s → t ≡ bytesTo f k ++ drop (4 * k) s → x ≡ f k
+    → putWord t k x ≡ bytesTo f (k + 1) ++ drop (4 * (k + 1)) s
+unfolding bytesTo
+fill-again f s t k x h p q =
+    let m : 4 * (k + 1) ≡ 4 * k + 4 = omega arith in
+    rw (p, q, m, add-one k) (put-next (bytesTo f k) (drop (4 * k) s) k (f k) (bytesTo-length f k) (omega (arith, length-drop (4 * k) s))
+    ∙ ap (λ (r : List ℕ). (bytesTo f k ++ bytes4 (f k)) ++ r) (drop-drop 4 (4 * k) s))
+
+pub fill-end : (f : ℕ → ℕ) (s t : List ℕ) (k n : ℕ) → length s ≡ 4 * n → k ≤ n → n ≤ k → t ≡ bytesTo f k ++ drop (4 * k) s → t ≡ bytesTo f n
+fill-end f s t k n e h l p =
+    let m : k ≡ n = omega arith in
+    p ∙ rw (m, drop-of-length-le s {i = 4 * n} (omega arith), append-nil)
+
+-- long numbers put at 0, 1, .. fill a buffer of their length
+putAll : List ℕ → ℕ → List ℕ → List ℕ
+putAll s k [] = s
+putAll s k (x ∷ xs) = putAll (putLong s k x) (suc k) xs
+
+put-all : (xs p q : List ℕ) (k : ℕ) → length p ≡ 8 * k → length q ≡ 8 * length xs → putAll (p ++ q) k xs ≡ p ++ longsOf xs
+unfolding putAll longsOf
+put-all [] p q k e h = rw (no-more q h)
+  where
+    no-more : (q : List ℕ) → length q ≡ 8 * 0 → q ≡ []
+    no-more [] h = refl
+    no-more (x ∷ xs) h = absurd (omega arith)
+put-all (x ∷ xs) p q k e h =
+    rw (put-next-long p q k x e (omega arith))
+    (put-all xs (p ++ bytes8 x) (drop 8 q) (suc k) (length-append p (bytes8 x) ∙ omega arith) (length-drop 8 q ∙ omega arith)
+    ∙ append-assoc p (bytes8 x) (longsOf xs))
+
+pub put-three : (s : List ℕ) (a b c : ℕ) → length s ≡ 24 → putLong (putLong (putLong s 0 a) 1 b) 2 c ≡ longsOf (a ∷ b ∷ c ∷ [])
+unfolding putAll
+put-three s a b c e = put-all (a ∷ b ∷ c ∷ []) [] s 0 refl e
+
+pub put-four : (s : List ℕ) (a b c d : ℕ) → length s ≡ 32 → putLong (putLong (putLong (putLong s 0 a) 1 b) 2 c) 3 d ≡ longsOf (a ∷ b ∷ c ∷ d ∷ [])
+unfolding putAll
+put-four s a b c d e = put-all (a ∷ b ∷ c ∷ d ∷ []) [] s 0 refl e
+
+pub put-five : (s : List ℕ) (a b c d f : ℕ) → length s ≡ 40
+    → putLong (putLong (putLong (putLong (putLong s 0 a) 1 b) 2 c) 3 d) 4 f ≡ longsOf (a ∷ b ∷ c ∷ d ∷ f ∷ [])
+unfolding putAll
+put-five s a b c d f e = put-all (a ∷ b ∷ c ∷ d ∷ f ∷ []) [] s 0 refl e

@@ -1,5 +1,6 @@
 //! The sheets of the program `bad_input` (crates/bad_input), made here from rows and starts and not from that program,
 //! and the lines that it has to print: what the plain reading says of each.
+use crate::layouts;
 use crate::plain::{self, LIMIT};
 use crate::{all_joined, bytes, write};
 
@@ -25,7 +26,7 @@ pub fn stdout() -> String {
 
 /// Every sheet, in the program's order.
 pub fn cases() -> Vec<Case> {
-    [few_bytes(), many_routes(), contents(), totals(), entries(), first_entry(), loops(), layouts(), all()]
+    [few_bytes(), many_routes(), contents(), totals(), entries(), first_entry(), loops(), named(), all()]
         .into_iter()
         .flatten()
         .collect()
@@ -129,12 +130,8 @@ fn loops() -> Vec<Case> {
     ]
 }
 
-fn layouts() -> Vec<Case> {
-    let claw: [&[u32]; 4] = [&[1, 2, 3], &[0], &[0], &[0]];
-    let ten: [&[u32]; 10] =
-        [&[1], &[0, 2], &[1, 3, 6], &[2, 4, 7], &[3, 5], &[4, 6], &[2, 5, 7], &[3, 6, 8], &[7, 9], &[8]];
-    let named = |label: &str, layout: &[&[u32]]| Case { label: label.to_string(), ..rows(layout) };
-    vec![named("claw", &claw), named("ten routes", &ten)]
+fn named() -> Vec<Case> {
+    vec![case("claw", write(&layouts::claw())), case("ten routes", write(&layouts::ten()))]
 }
 
 fn all() -> Vec<Case> {

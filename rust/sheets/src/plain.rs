@@ -4,6 +4,9 @@
 /// The most routes.
 pub const LIMIT: u32 = 512;
 
+/// The number that stands for no route.
+pub const NONE: u32 = u32::MAX;
+
 /// Number, A and B.
 pub type Reply = (u32, u64, u64);
 
@@ -27,18 +30,23 @@ fn number(bytes: &[u8]) -> u32 {
     u32::from_le_bytes([bytes[0], bytes[1], bytes[2], bytes[3]])
 }
 
+/// The numbers of four bytes each that stand in these bytes. What is left over at the end is no number.
+pub fn numbers(bytes: &[u8]) -> Vec<u32> {
+    bytes.chunks_exact(4).map(number).collect()
+}
+
 /// The rows, unless the contents are cut short, start 0 is not 0, a start falls, or the length is not 8 + 4n + 4E.
-fn rows(bytes: &[u8]) -> Option<Vec<Vec<u32>>> {
+pub fn rows(bytes: &[u8]) -> Option<Vec<Vec<u32>>> {
     let n = number(bytes) as usize;
     let contents = bytes.get(4..8 + 4 * n)?;
-    let starts: Vec<usize> = contents.chunks_exact(4).map(|start| number(start) as usize).collect();
+    let starts: Vec<usize> = numbers(contents).into_iter().map(|start| start as usize).collect();
     if starts[0] != 0 || starts.windows(2).any(|two| two[0] > two[1]) {
         return None;
     }
     if bytes.len() != 8 + 4 * n + 4 * starts[n] {
         return None;
     }
-    let entries: Vec<u32> = bytes[8 + 4 * n..].chunks_exact(4).map(number).collect();
+    let entries = numbers(&bytes[8 + 4 * n..]);
     Some(starts.windows(2).map(|two| entries[two[0]..two[1]].to_vec()).collect())
 }
 

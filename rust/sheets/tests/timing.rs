@@ -5,9 +5,10 @@
 //! sound rows can be.
 mod probe;
 
+use sheets::clock;
 use sheets::plain::Reply;
-use std::sync::Mutex;
-use std::time::{Duration, Instant};
+use std::hint::black_box;
+use std::time::Duration;
 
 const LARGEST: Duration = Duration::from_millis(20);
 const HOSTILE: Duration = Duration::from_secs(1);
@@ -15,24 +16,13 @@ const HOSTILE: Duration = Duration::from_secs(1);
 /// The numbers of a sheet of 16 MB.
 const NUMBERS: usize = 4 << 20;
 
-/// One measurement at a time.
-static ALONE: Mutex<()> = Mutex::new(());
-
-/// The sheet read five times: the answer asserted, the times printed, the quickest (the one that the machine disturbed
-/// least) held to the bar.
+/// The sheet's answer asserted, and the time that it takes held to the bar.
 fn timed(what: &str, sheet: &[u8], reply: Reply, bar: Duration) {
-    let _alone = ALONE.lock().unwrap_or_else(|broken| broken.into_inner());
     assert_eq!(probe::reply(sheet), reply, "{what}");
-    let mut times: Vec<Duration> = (0..5).map(|_| time(sheet)).collect();
-    times.sort();
-    println!("{what}: {} bytes, answer {reply:?}, {:.3?} to {:.3?}", sheet.len(), times[0], times[4]);
-    assert!(times[0] < bar, "{what}: {:?} is over the bar of {bar:?}", times[0]);
-}
-
-fn time(sheet: &[u8]) -> Duration {
-    let begun = Instant::now();
-    std::hint::black_box(probe::number(std::hint::black_box(sheet)));
-    begun.elapsed()
+    let what = format!("{what}: {} bytes, answer {reply:?}", sheet.len());
+    clock::hold(&what, bar, || {
+        black_box(probe::number(black_box(sheet)));
+    });
 }
 
 /// A star: 0 joined to all of 1 to 511.

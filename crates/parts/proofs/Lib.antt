@@ -1,0 +1,3 @@
+pub mod Counted
+mod Joined
+mod Swept

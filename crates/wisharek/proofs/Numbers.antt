@@ -1,0 +1,177 @@
+-- The numbers of an answer, and that the number is 0 exactly where nothing is refused. Assumes nothing.
+use Prim.Native.Nat.{ℕ, suc, _+_, _-_, _*_, _^_, _≤_, _<_}
+use mathlib.Core.Path.{_≡_, refl, sym, ap, _∙_}
+use mathlib.Core.Logic.{_↔_}
+use mathlib.Core.Bool.{Bool, true, false, cond}
+use mathlib.Core.List.{List, [], _∷_}
+use native.Mathlib.Omega.{arith}
+use lib.Dec.{eqb, ltb}
+use lib.IntN.{ℤ, pos, negsuc, subℕ}
+use lib.ListN.{length, getD}
+use borrow.Author.Tests.{lt-ltb, le-ltb}
+use Rattle.limits.specs.declared.Told.{Told}
+use Rattle.theory.specs.Count.{least}
+use Rattle.theory.specs.Graph.{Graph}
+use Rattle.theory.specs.Surplus.{surplus}
+use Rattle.theory.specs.Pairing.{unpaired}
+use Rattle.theory.proofs.Count.{cases, clash}
+use Rattle.words.specs.Words.{putLong, longsOf}
+use Rattle.words.proofs.Bytes.{put-three, put-four, put-five}
+use Rattle.rows.specs.Sheet.{order, graphOf}
+use Rattle.sheet.specs.Reply as sheet
+use Rattle.sheet.specs.declared.Reply.{Reply}
+use Rattle.sheet.specs.declared.Reply.the-variants as reply
+use Rattle.witness.specs.Given.{mateOf, setOf}
+use Rattle.witness.specs.Cause.{causeOf, firstWrong, valueFor}
+use Rattle.witness.specs.Verdict.{toldOf, refuses, first, isCount, sheetVerdict, pairingLength, witnessLength, partsLength, partnerVerdict, markVerdict, boundVerdict, checkOf, surplusVerdict, surplusOf, partsVerdict, oddOf, membersOf, partsBytes}
+use Rattle.witness.specs.Promise.{Shown, Maximum, Checked, Surplus, Parted}
+use Rattle.witness.specs.declared.Verdict.{Verdict}
+use Rattle.witness.specs.declared.Verdict.the-variants.{Accepted, Sheet, PairingLength, WitnessLength, PartsLength, Partner, Mark, NotShown}
+use Rattle.wisharek.specs.Calls.{Unanswered, Answered, CheckCall, SurplusCall, PartsCall, twos}
+
+-- ---- the number is 0 only where nothing is refused
+
+-- a verdict whose number is 0 is acceptance
+abbrev Sharp : Verdict → Type 0
+Sharp v = toldOf v .no ≡ 0 → v ≡ Accepted
+
+sharp-first : (x y : Verdict) → Sharp x → Sharp y → Sharp (first x y)
+sharp-first x y f g = go (refuses x)
+  where
+    go : (b : Bool) → toldOf (cond b x y) .no ≡ 0 → cond b x y ≡ Accepted
+    go true = f
+    go false = g
+
+sharp-cond : (b : Bool) (x y : Verdict) → Sharp x → Sharp y → Sharp (cond b x y)
+sharp-cond true x y f g = f
+sharp-cond false x y f g = g
+
+never : {C : Type 0} (k : ℕ) → suc k ≡ 0 → C
+never k h = absurd (omega arith)
+
+sharp-reply : (r : Reply) → sheet.refuses r ≡ true → Sharp (Sheet r)
+sharp-reply reply.Accepted h = λ e. clash false h refl
+sharp-reply reply.Short h = never 0
+sharp-reply (reply.TooMany n) h = never 1
+sharp-reply reply.Contents h = never 2
+sharp-reply (reply.UnknownId w) h = never 3
+sharp-reply (reply.DuplicateEdge v w) h = never 4
+sharp-reply (reply.MissingEdge w v) h = never 5
+sharp-reply (reply.Loop v) h = never 6
+
+sharp-sheet : (s : List ℕ) → Sharp (sheetVerdict s)
+unfolding sheetVerdict
+sharp-sheet s = cases (sheet.refuses (sheet.replyOf s))
+    (λ t. rw t (sharp-reply (sheet.replyOf s) t))
+    (λ t. rw t (λ e. refl))
+
+sharp-pairing : (n : ℕ) (pairing : List ℕ) → Sharp (pairingLength n pairing)
+unfolding pairingLength
+sharp-pairing n pairing = sharp-cond (eqb (length pairing) (4 * n)) Accepted PairingLength (λ e. refl) (never 7)
+
+sharp-witness : (n : ℕ) (witness : List ℕ) → Sharp (witnessLength n witness)
+unfolding witnessLength
+sharp-witness n witness = sharp-cond (eqb (length witness) n) Accepted WitnessLength (λ e. refl) (never 8)
+
+sharp-partner : (g : Graph) (mate : ℕ → ℕ) → Sharp (partnerVerdict g mate)
+unfolding partnerVerdict
+sharp-partner g mate =
+    let v : ℕ = firstWrong g mate in
+    sharp-cond (ltb v (g .order)) (Partner v (valueFor (causeOf g mate v) (mate v))) Accepted (never 9) (λ e. refl)
+
+sharp-mark : (n : ℕ) (witness : List ℕ) → Sharp (markVerdict n witness)
+unfolding markVerdict
+sharp-mark n witness =
+    let i : ℕ = least n (λ k. ltb 1 (getD witness k 0)) in
+    sharp-cond (ltb i n) (Mark i (getD witness i 0)) Accepted (never 10) (λ e. refl)
+
+sharp-bound : (g : Graph) (mate : ℕ → ℕ) (A : ℕ → Bool) → Sharp (boundVerdict g mate A)
+unfolding boundVerdict
+sharp-bound g mate A = sharp-cond (isCount (surplus g A) (unpaired g mate)) Accepted (NotShown (unpaired g mate)) (λ e. refl) (never 11)
+
+sharp-check : (s pairing witness : List ℕ) → Sharp (checkOf s pairing witness)
+unfolding checkOf
+sharp-check s pairing witness =
+    let bound : Verdict = boundVerdict (graphOf s) (mateOf pairing) (setOf witness) in
+    let mark : Verdict = markVerdict (order s) witness in
+    let partner : Verdict = partnerVerdict (graphOf s) (mateOf pairing) in
+    let second : Verdict = witnessLength (order s) witness in
+    sharp-first (sheetVerdict s) (first (pairingLength (order s) pairing) (first second (first partner (first mark bound)))) (sharp-sheet s)
+    (sharp-first (pairingLength (order s) pairing) (first second (first partner (first mark bound))) (sharp-pairing (order s) pairing)
+    (sharp-first second (first partner (first mark bound)) (sharp-witness (order s) witness)
+    (sharp-first partner (first mark bound) (sharp-partner (graphOf s) (mateOf pairing))
+    (sharp-first mark bound (sharp-mark (order s) witness) (sharp-bound (graphOf s) (mateOf pairing) (setOf witness))))))
+
+-- ---- two's complement
+
+pub twos-below : (odd size : ℕ) → odd < size → 18446744073709551615 - (size - odd - 1) ≡ twos (subℕ odd size)
+twos-below odd size h = let e : size - suc odd ≡ size - odd - 1 = omega arith in rw (lt-ltb _ _ h, e)
+
+pub twos-above : (odd size : ℕ) → size ≤ odd → odd - size ≡ twos (subℕ odd size)
+twos-above odd size h = rw (le-ltb _ _ h)
+
+-- ---- the calls
+
+module _ (s pairing witness before : List ℕ) where
+  pub check-unanswered : (length before ≡ 24 → ⊥) → CheckCall s pairing witness before before 9
+  check-unanswered h = record {
+    wrong-length = λ _. record { nine = refl; unwritten = refl };
+    answered = λ e. absurd (h e);
+    exactly = λ e. absurd (h e);
+    maximum = λ e. absurd (h e);
+  }
+
+  pub check-answered : length before ≡ 24 → (v : Verdict) (t : Told) (after : List ℕ) → Checked s pairing witness v → t ≡ toldOf v
+      → after ≡ putLong (putLong (putLong before 0 (t .no)) 1 (t .a)) 2 (t .b) → CheckCall s pairing witness before after (t .no)
+  check-answered e v t after k p q =
+      let same : t ≡ toldOf (checkOf s pairing witness) = p ∙ ap toldOf (k .is) in
+      let zero : t .no ≡ 0 → v ≡ Accepted = λ z. k .is ∙ sharp-check s pairing witness (sym (ap (λ (u : Told). u .no) same) ∙ z) in
+      record {
+        wrong-length = λ h. absurd (h e);
+        answered = λ _. record { number = ap (λ (u : Told). u .no) same; written = q ∙ put-three before (t .no) (t .a) (t .b) e ∙ ap (λ (u : Told). longsOf (u .no ∷ u .a ∷ u .b ∷ [])) same };
+        exactly = λ _. (λ z. k .exactly .0 (zero z), λ h. ap (λ (u : Told). u .no) (p ∙ ap toldOf (k .exactly .1 h)));
+        maximum = λ _ z. k .maximum (zero z);
+      }
+
+module _ (s witness before : List ℕ) where
+  pub surplus-unanswered : (length before ≡ 32 → ⊥) → SurplusCall s witness before before 9
+  surplus-unanswered h = record { wrong-length = λ _. record { nine = refl; unwritten = refl }; answered = λ e. absurd (h e) }
+
+  pub surplus-answered : length before ≡ 32 → (v : Verdict) (odd size : ℕ) (z : ℤ) (t : Told) (x : ℕ) (mid after : List ℕ) → Surplus s witness v odd size z → t ≡ toldOf v
+      → mid ≡ putLong (putLong (putLong before 0 (t .no)) 1 (t .a)) 2 (t .b) → x ≡ twos (subℕ odd size) → after ≡ putLong mid 3 x
+      → SurplusCall s witness before after (t .no)
+  surplus-answered e v odd size z t x mid after k p q ex r =
+      let same : t ≡ toldOf (surplusVerdict s witness) = p ∙ ap toldOf (k .is) in
+      let bits : x ≡ twos (surplusOf s witness) = ex ∙ ap twos (k .counts) in
+      record {
+        wrong-length = λ h. absurd (h e);
+        answered = λ _. record {
+          number = ap (λ (u : Told). u .no) same;
+          written = r ∙ rw (q, bits) (put-four before (t .no) (t .a) (t .b) (twos (surplusOf s witness)) e) ∙ ap (λ (u : Told). longsOf (u .no ∷ u .a ∷ u .b ∷ twos (surplusOf s witness) ∷ [])) same;
+        };
+      }
+
+module _ (s witness lent before : List ℕ) where
+  pub parts-unanswered : (length before ≡ 40 → ⊥) → PartsCall s witness lent lent before before 9
+  parts-unanswered h = record {
+    wrong-length = λ _. record { nine = refl; unwritten = refl };
+    untouched = λ _. refl;
+    answered = λ e. absurd (h e);
+    filled = λ e. absurd (h e);
+  }
+
+  pub parts-answered : length before ≡ 40 → (v : Verdict) (odd size : ℕ) (parts : List ℕ) (t : Told) (mid next after : List ℕ) → Parted s witness lent parts v odd size → t ≡ toldOf v
+      → mid ≡ putLong (putLong (putLong before 0 (t .no)) 1 (t .a)) 2 (t .b) → next ≡ putLong mid 3 odd → after ≡ putLong next 4 size
+      → PartsCall s witness lent parts before after (t .no)
+  parts-answered e v odd size parts t mid next after k p q r f =
+      let same : t ≡ toldOf (partsVerdict s witness lent) = p ∙ ap toldOf (k .is) in
+      record {
+        wrong-length = λ h. absurd (h e);
+        untouched = λ h. absurd (h e);
+        answered = λ _. record {
+          number = ap (λ (u : Told). u .no) same;
+          written = f ∙ rw (r, q, k .odd-parts, k .members) (put-five before (t .no) (t .a) (t .b) (oddOf s witness lent) (membersOf s witness lent) e)
+              ∙ ap (λ (u : Told). longsOf (u .no ∷ u .a ∷ u .b ∷ oddOf s witness lent ∷ membersOf s witness lent ∷ [])) same;
+        };
+        filled = λ _. k .written;
+      }

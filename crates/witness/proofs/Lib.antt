@@ -1,0 +1,5 @@
+mod Causes
+mod Verdicts
+mod Signed
+mod Weights
+pub mod Checker
