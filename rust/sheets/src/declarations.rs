@@ -46,19 +46,27 @@ fn signature(text: &str) -> String {
     }
 }
 
-/// Each slice of bytes as a pointer and a length.
+/// Each slice as a pointer and a length.
 fn in_c(signature: &str) -> String {
     let (name, rest) = signature.split_once('(').expect("arguments");
     let (arguments, result) = rest.split_once(')').expect("their end");
     let arguments: Vec<String> = arguments
         .split(", ")
-        .map(|argument| match argument.split_once(": ") {
-            Some((name, "&[u8]")) => format!("{name}: *const u8, {name}_len: usize"),
-            Some((name, "&mut [u8]")) => format!("{name}: *mut u8, {name}_len: usize"),
-            _ => argument.to_string(),
+        .map(|argument| {
+            let Some((name, form)) = argument.split_once(": ") else { return argument.to_string() };
+            match (element(form, "&["), element(form, "&mut [")) {
+                (Some(kind), _) => format!("{name}: *const {kind}, {name}_len: usize"),
+                (_, Some(kind)) => format!("{name}: *mut {kind}, {name}_len: usize"),
+                _ => argument.to_string(),
+            }
         })
         .collect();
     format!("{name}({}){result}", arguments.join(", "))
+}
+
+/// What a slice that is written so has for its elements.
+fn element<'a>(form: &'a str, begin: &str) -> Option<&'a str> {
+    form.strip_prefix(begin)?.strip_suffix(']')
 }
 
 fn one_line(text: &str) -> String {

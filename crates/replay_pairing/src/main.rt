@@ -1,0 +1,321 @@
+// Replays recorded answers of gamma's `Pairing` through the proved operations, and prints how many of them agree. The
+// file `data/sample` has one operation to a line, what gamma answered, and the order and the pairs that it left;
+// README.md says how it was made. Its numbers are read into a table, in which each line begins with an operation in the
+// form that `drive` reads. The file `stdout` beside `src/` is counted from the sample, and not from a run of this program.
+use drive::end_of;
+use drive::ids_at;
+use drive::number_at;
+use drive::replies::AUGMENT;
+use drive::replies::MATE;
+use drive::replies::reply_to;
+use libc::STDOUT_FILENO;
+use pairing::HALF;
+use pairing::Pairing;
+ghost use Prim.Native.Nat.{_≤_};
+
+// Room for the sample's bytes, and one more.
+const BYTES: usize = 262144;
+
+// Room for its numbers.
+const NUMBERS: usize = 65536;
+
+// How many operations there are.
+const CODES: usize = 6;
+
+// A text, part of the way: the number that is being read, if one is, and how many were read before it.
+struct Reader {
+    comment: bool,
+    inside: bool,
+    x: u32,
+    count: usize,
+}
+
+// One line, replayed: its operation, whether gamma panicked at it, whether all of it agrees, the pairing that is left, and
+// where the next line begins.
+struct Replayed {
+    code: u32,
+    panicked: bool,
+    agrees: bool,
+    pairing: Pairing,
+    next: usize,
+}
+
+// How many lines there are, and how many of them differ.
+struct Counted {
+    lines: u64,
+    differences: u64,
+}
+
+// One more digit; a number that would be too long for four bytes stays.
+fn with_digit(x: u32, byte: u8) -> u32 {
+    if byte < 48 {
+        return x;
+    }
+    if 400000000 <= x {
+        return x;
+    }
+    10 * x + (byte - 48) as u32
+}
+
+// Whether a byte is a digit.
+fn is_digit(byte: u8) -> bool {
+    if byte < 48 {
+        return false;
+    }
+    byte <= 57
+}
+
+// A number put behind those that were read; the answer is how many they are then.
+fn put(numbers: &mut [u32; NUMBERS], count: usize, x: u32) -> usize {
+    if count < NUMBERS {
+        numbers[count] = x;
+        return count + 1;
+    }
+    count
+}
+
+// One byte of the text: a comment runs from # to the end of its line, and what is no digit parts numbers.
+fn read_byte(r: Reader, byte: u8, numbers: &mut [u32; NUMBERS]) -> Reader {
+    if r.comment {
+        return Reader {
+            comment: byte != 10,
+            inside: false,
+            x: 0,
+            count: r.count,
+        };
+    }
+    if is_digit(byte) {
+        return Reader {
+            comment: false,
+            inside: true,
+            x: with_digit(r.x, byte),
+            count: r.count,
+        };
+    }
+    if r.inside {
+        return Reader {
+            comment: byte == 35,
+            inside: false,
+            x: 0,
+            count: put(numbers, r.count, r.x),
+        };
+    }
+    Reader {
+        comment: byte == 35,
+        inside: false,
+        x: 0,
+        count: r.count,
+    }
+}
+
+// The numbers of a text, in order; the answer is how many they are.
+fn read_numbers(text: &[u8], numbers: &mut [u32; NUMBERS]) -> usize {
+    let mut r = Reader {
+        comment: false,
+        inside: false,
+        x: 0,
+        count: 0,
+    };
+    let mut i = 0;
+    while i < text.len() {
+        r = read_byte(r, text[i], numbers);
+        i += 1;
+    }
+    r.count
+}
+
+// How many ids the operation at a place says that it has.
+fn ids_given(numbers: &[u32], at: usize) -> u32 {
+    if numbers.len() <= at {
+        return 0;
+    }
+    number_at(numbers, at + 1)
+}
+
+// Whether a reply is what gamma said: the value, or the refusal that stands for its panic.
+fn same_answer(code: u32, no: u32, value: u64, panicked: u32, said: u32) -> bool {
+    if panicked == 0 {
+        return no == 0 && value == said as u64;
+    }
+    if code == AUGMENT {
+        return no == 13;
+    }
+    code == MATE && no == 16
+}
+
+// Whether the pairs of a pairing are those that stand in the table from a place on.
+fn same_pairs(p: Pairing, numbers: &[u32], at: usize, pairs: usize) -> bool {
+    let e = p.edges();
+    let lower = e.lower;
+    let upper = e.upper;
+    if NUMBERS < at {
+        return false;
+    }
+    if HALF < pairs {
+        return false;
+    }
+    if e.count != pairs {
+        return false;
+    }
+    let mut k = 0;
+    while k < pairs {
+        if number_at(numbers, at + 2 * k) != number_at(&lower, k) {
+            return false;
+        }
+        if number_at(numbers, at + 2 * k + 1) != number_at(&upper, k) {
+            return false;
+        }
+        k += 1;
+    }
+    true
+}
+
+// Whether a pairing has the order that stands at a place, and the pairs behind it.
+fn same_pairing(p: Pairing, numbers: &[u32], at: usize) -> bool {
+    if NUMBERS < at {
+        return false;
+    }
+    let order = number_at(numbers, at);
+    if p.order().ids != order {
+        return false;
+    }
+    same_pairs(p, numbers, at + 1, (order / 2) as usize)
+}
+
+// The line that begins at a place, on the pairing that the lines before it left.
+fn replay_line(p: Pairing, numbers: &[u32], at: usize) -> Replayed {
+    let code = number_at(numbers, at);
+    let said = end_of(numbers.len(), at, ids_given(numbers, at));
+    let reply = reply_to(p, code, ids_at(numbers, at));
+    let pairing = reply.pairing;
+    if NUMBERS < said {
+        return Replayed {
+            code,
+            panicked: false,
+            agrees: false,
+            pairing,
+            next: said,
+        };
+    }
+    let panicked = number_at(numbers, said);
+    let value = number_at(numbers, said + 1);
+    let order = number_at(numbers, said + 2);
+    let same = same_answer(code, reply.told.no, reply.value, panicked, value);
+    Replayed {
+        code,
+        panicked: panicked != 0,
+        agrees: same && same_pairing(pairing, numbers, said + 2),
+        pairing,
+        next: said + 3 + order as usize,
+    }
+}
+
+// One more at a code.
+fn count(t: &mut [u64; CODES], code: u32) {
+    let k = code as usize;
+    if k < CODES {
+        let n = t[k];
+        if n < NUMBERS as u64 {
+            t[k] = n + 1;
+        }
+    }
+}
+
+// A line counted; the answer is 1 if it differs and 0 if it agrees.
+fn tally(line: Replayed, answered: &mut [u64; CODES], refused: &mut [u64; CODES]) -> u64
+    ensures { λ r. ⌜ r ≤ 1 ⌝ }
+{
+    if !line.agrees {
+        return 1;
+    }
+    if line.panicked {
+        count(refused, line.code);
+        return 0;
+    }
+    count(answered, line.code);
+    0
+}
+
+// All lines, in turn, from a fresh pairing.
+fn replay(numbers: &[u32], answered: &mut [u64; CODES], refused: &mut [u64; CODES]) -> Counted {
+    let mut pairing = Pairing::new();
+    let mut at = 0;
+    let mut differences = 0;
+    let mut lines = 0;
+    while lines < NUMBERS as u64 {
+        if numbers.len() <= at {
+            return Counted { lines, differences };
+        }
+        let line = replay_line(pairing, numbers, at);
+        pairing = line.pairing;
+        at = line.next;
+        differences += tally(line, answered, refused);
+        lines += 1;
+    }
+    Counted { lines, differences }
+}
+
+// Writes a number with a space before it.
+fn number(x: u64) {
+    io::write_all(STDOUT_FILENO, b" ");
+    io::print_decimal(STDOUT_FILENO, x);
+}
+
+// Writes how often an operation was answered, and how often refused.
+fn line(name: &[u8], answered: u64, refused: u64) {
+    io::write_all(STDOUT_FILENO, name);
+    number(answered);
+    io::write_all(STDOUT_FILENO, b" answered,");
+    number(refused);
+    io::write_all(STDOUT_FILENO, b" refused\n");
+}
+
+// Writes a count.
+fn total(name: &[u8], x: u64) {
+    io::write_all(STDOUT_FILENO, name);
+    number(x);
+    io::write_all(STDOUT_FILENO, b"\n");
+}
+
+// The first numbers of the table, all of them where there are fewer.
+fn front(numbers: &[u32], count: usize) -> &[u32] {
+    let z = 0;
+    if numbers.len() < count {
+        return numbers;
+    }
+    &numbers[z..count]
+}
+
+// Replays the first numbers of the table, and writes what was counted.
+fn report(numbers: &[u32; NUMBERS], count: usize) {
+    let mut a = [0u64; CODES];
+    let mut r = [0u64; CODES];
+    let counted = replay(front(numbers, count), &mut a, &mut r);
+    line(b"order:", a[0], r[0]);
+    line(b"has_node:", a[1], r[1]);
+    line(b"pair:", a[2], r[2]);
+    line(b"edges:", a[3], r[3]);
+    line(b"augment:", a[4], r[4]);
+    line(b"mate:", a[5], r[5]);
+    total(b"operations:", counted.lines);
+    total(b"differences:", counted.differences);
+}
+
+fn main() {
+    let path = b"sample";
+    let fd = os::open_read(path);
+    if fd < 0 {
+        os::fail(path);
+        return;
+    }
+    let mut text = [0u8; BYTES];
+    let n = io::read_full(fd, &mut text);
+    libc::close(fd);
+    if BYTES <= n {
+        io::write_all(STDOUT_FILENO, b"the sample is too long\n");
+        return;
+    }
+    let mut numbers = [0u32; NUMBERS];
+    let count = read_numbers(&text[..n], &mut numbers);
+    report(&numbers, count);
+}
