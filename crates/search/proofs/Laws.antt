@@ -10,8 +10,20 @@ use Rattle.theory.specs.Search.Tables.{groups, unreached, Line, Tables}
 use Rattle.theory.specs.Search.Start.{seed, fill, start}
 use Rattle.theory.specs.Search.Look.{run}
 use Rattle.theory.specs.Search.Expose.{augmented}
-use Rattle.theory.specs.Search.Searched.{inward, outward, mark, begun, ended, found, stuck, searchedIn}
+use Rattle.theory.specs.Search.Searched.{inward, outward, mark, after, begun, ended, Outcome, found, stuck, searchedIn}
 use Rattle.tables.specs.Shapes.{line, rings, tables}
+use Rattle.search.specs.Answer.{Answers}
+use Rattle.theory.proofs.Count.{clash}
+
+-- ---- either way out
+
+found-answers : (room : ℕ) (g : Graph) (p p′ l : List ℕ) → found p′ ≡ searchedIn room g p → Answers room g p p′ l l true
+found-answers room g p p′ l e = record { is = e; partners = ap (λ (o : Outcome). after o p) e; kept = λ t. refl }
+
+stuck-answers : (room : ℕ) (g : Graph) (p l l′ : List ℕ) → stuck (map mark (take (g .order) l′)) ≡ searchedIn room g p → Answers room g p p l l′ false
+stuck-answers room g p l l′ e = record { is = e; partners = ap (λ (o : Outcome). after o p) e; kept = λ t. clash false t refl }
+
+-- ---- the tables
 
 module _ (room : ℕ) (g : Graph) (p : List ℕ) (n : ℕ) (mate₀ top₀ root₀ base₀ label₀ queue₀ : List ℕ) (tail₀ : ℕ) (en : n ≡ g .order) (em : mate₀ ≡ inward room n p room (replicate room none))
     (et : top₀ ≡ fill room n (replicate room none)) (er : root₀ ≡ fill (groups room) n (replicate (groups room) none)) (eb : base₀ ≡ fill (groups room) n (replicate (groups room) none))
@@ -41,11 +53,11 @@ module _ (room : ℕ) (g : Graph) (p : List ℕ) (n : ℕ) (mate₀ top₀ root�
 
     pub one-found : hit ≡ true → (m p′ : List ℕ)
         → ((s : Tables) → mate₀ ≡ mate₀ → m ≡ augmented room (tables (s .order) mate₀ parent top (s .root) base (s .rank) half (s .line) (rings up next out into) ids (s .hit) one two))
-        → p′ ≡ outward room m n p → found p′ ≡ searchedIn room g p
+        → p′ ≡ outward room m n p → (l : List ℕ) → Answers room g p p′ l l true
     unfolding searchedIn
-    one-found h m p′ a o =
-        ap found (o ∙ ap (λ (x : List ℕ). outward room x n p) (a S refl) ∙ ap (λ (k : ℕ). outward room (augmented room S) k p) en) ∙ rw (← ends, h) refl
+    one-found h m p′ a o l = found-answers room g p p′ l
+        (ap found (o ∙ ap (λ (x : List ℕ). outward room x n p) (a S refl) ∙ ap (λ (k : ℕ). outward room (augmented room S) k p) en) ∙ rw (← ends, h) refl)
 
-    pub none-found : hit ≡ false → stuck (map mark (take (g .order) label)) ≡ searchedIn room g p
+    pub none-found : hit ≡ false → (l : List ℕ) → Answers room g p p l label false
     unfolding searchedIn
-    none-found h = rw (← ends, h) refl
+    none-found h l = stuck-answers room g p l label (rw (← ends, h) refl)

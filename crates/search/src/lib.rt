@@ -12,16 +12,14 @@ use queue::run_queue;
 use rows::order;
 use tables::GROUPS;
 use tables::UNREACHED;
-ghost use mathlib.Core.Path.{_≡_};
 ghost use Rattle.limits.specs.Limits.{routes};
-ghost use Rattle.theory.specs.Search.Searched.{searchedIn};
-ghost use Rattle.rows.specs.Sheet.{order, graphOf};
-ghost use Rattle.search.specs.Answer.{answer};
+ghost use Rattle.rows.specs.Sheet.{graphOf};
+ghost use Rattle.search.specs.Answer.{Answers};
 
-// One search: whether a pair more is found. Where it is, p has the new partners. Where it is not, label has the labels,
-// whose inner routes are the witness.
+// One search: whether a pair more is found. Where it is, p has the new partners. Where it is not, p is as it was, and
+// label has the labels, whose inner routes are the witness.
 pub fn searched(s: &[u8], p: &mut [u32; ROUTES], label: &mut [u32; ROUTES]) -> bool
-    ensures { λ r. ⌜ answer r (order (now (s .entry))) (now (p .exit)) (now (label .exit)) ≡ searchedIn routes (graphOf (now (s .entry))) (now (p .entry)) ⌝ }
+    ensures { λ r. ⌜ Answers routes (graphOf (now (s .entry))) (now (p .entry)) (now (p .exit)) (now (label .entry)) (now (label .exit)) r ⌝ }
 {
     let n = order(s);
     let mut mate = [NONE; ROUTES];

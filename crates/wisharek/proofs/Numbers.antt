@@ -16,18 +16,21 @@ use Rattle.theory.specs.Surplus.{surplus}
 use Rattle.theory.specs.Pairing.{unpaired}
 use Rattle.theory.proofs.Count.{cases, clash}
 use Rattle.words.specs.Words.{putLong, longsOf}
-use Rattle.words.proofs.Bytes.{put-three, put-four, put-five}
+use Rattle.words.proofs.Bytes.{put-three, put-four, put-five, put-seven}
 use Rattle.rows.specs.Sheet.{order, graphOf}
 use Rattle.sheet.specs.Reply as sheet
 use Rattle.sheet.specs.declared.Reply.{Reply}
 use Rattle.sheet.specs.declared.Reply.the-variants as reply
 use Rattle.witness.specs.Given.{mateOf, setOf}
 use Rattle.witness.specs.Cause.{causeOf, firstWrong, valueFor}
-use Rattle.witness.specs.Verdict.{toldOf, refuses, first, isCount, sheetVerdict, pairingLength, witnessLength, partsLength, partnerVerdict, markVerdict, boundVerdict, checkOf, surplusVerdict, surplusOf, partsVerdict, oddOf, membersOf, partsBytes}
+use Rattle.witness.specs.Verdict.{toldOf, refuses, first, isCount, sheetVerdict, pairingLength, witnessLength, partsLength, partnerVerdict, markVerdict, boundVerdict, improveVerdict, checkOf, surplusVerdict, surplusOf, partsVerdict, oddOf, membersOf, partsBytes}
 use Rattle.witness.specs.Promise.{Shown, Maximum, Checked, Surplus, Parted}
 use Rattle.witness.specs.declared.Verdict.{Verdict}
 use Rattle.witness.specs.declared.Verdict.the-variants.{Accepted, Sheet, PairingLength, WitnessLength, PartsLength, Partner, Mark, NotShown}
-use Rattle.wisharek.specs.Calls.{Unanswered, Answered, CheckCall, SurplusCall, PartsCall, twos}
+use Rattle.improve.specs.Choice.{pairingAfter, witnessAfter, addedOf, sizeAfter, finishedOf, sessionsAfter}
+use Rattle.improve.specs.Promise.{Means, Improve}
+use Rattle.improve.proofs.Twice.{verdict-twice, pairing-twice, witness-twice, finished-twice, size-twice, sessions-twice, added-twice}
+use Rattle.wisharek.specs.Calls.{Unanswered, Answered, CheckCall, SurplusCall, PartsCall, ImproveCall, TwoCalls, twos}
 
 -- ---- the number is 0 only where nothing is refused
 
@@ -89,18 +92,22 @@ sharp-bound : (g : Graph) (mate : ℕ → ℕ) (A : ℕ → Bool) → Sharp (bou
 unfolding boundVerdict
 sharp-bound g mate A = sharp-cond (isCount (surplus g A) (unpaired g mate)) Accepted (NotShown (unpaired g mate)) (λ e. refl) (never 11)
 
+sharp-improve : (s pairing witness : List ℕ) → Sharp (improveVerdict s pairing witness)
+unfolding improveVerdict
+sharp-improve s pairing witness =
+    let partner : Verdict = partnerVerdict (graphOf s) (mateOf pairing) in
+    let second : Verdict = witnessLength (order s) witness in
+    sharp-first (sheetVerdict s) (first (pairingLength (order s) pairing) (first second partner)) (sharp-sheet s)
+    (sharp-first (pairingLength (order s) pairing) (first second partner) (sharp-pairing (order s) pairing)
+    (sharp-first second partner (sharp-witness (order s) witness) (sharp-partner (graphOf s) (mateOf pairing))))
+
 sharp-check : (s pairing witness : List ℕ) → Sharp (checkOf s pairing witness)
 unfolding checkOf
 sharp-check s pairing witness =
     let bound : Verdict = boundVerdict (graphOf s) (mateOf pairing) (setOf witness) in
     let mark : Verdict = markVerdict (order s) witness in
-    let partner : Verdict = partnerVerdict (graphOf s) (mateOf pairing) in
-    let second : Verdict = witnessLength (order s) witness in
-    sharp-first (sheetVerdict s) (first (pairingLength (order s) pairing) (first second (first partner (first mark bound)))) (sharp-sheet s)
-    (sharp-first (pairingLength (order s) pairing) (first second (first partner (first mark bound))) (sharp-pairing (order s) pairing)
-    (sharp-first second (first partner (first mark bound)) (sharp-witness (order s) witness)
-    (sharp-first partner (first mark bound) (sharp-partner (graphOf s) (mateOf pairing))
-    (sharp-first mark bound (sharp-mark (order s) witness) (sharp-bound (graphOf s) (mateOf pairing) (setOf witness))))))
+    sharp-first (improveVerdict s pairing witness) (first mark bound) (sharp-improve s pairing witness)
+    (sharp-first mark bound (sharp-mark (order s) witness) (sharp-bound (graphOf s) (mateOf pairing) (setOf witness)))
 
 -- ---- two's complement
 
@@ -174,4 +181,64 @@ module _ (s witness lent before : List ℕ) where
               ∙ ap (λ (u : Told). longsOf (u .no ∷ u .a ∷ u .b ∷ oddOf s witness lent ∷ membersOf s witness lent ∷ [])) same;
         };
         filled = λ _. k .written;
+      }
+
+not-zero : (v : Verdict) → (toldOf v .no ≡ 0 → ⊥) → refuses v ≡ true
+not-zero Accepted h = absurd (h refl)
+not-zero (Sheet r) h = refl
+not-zero PairingLength h = refl
+not-zero WitnessLength h = refl
+not-zero PartsLength h = refl
+not-zero (Partner v x) h = refl
+not-zero (Mark i b) h = refl
+not-zero (NotShown u) h = refl
+
+module _ (s p w : List ℕ) (b : ℕ) (before : List ℕ) where
+  pub improve-unanswered : (length before ≡ 56 → ⊥) → ImproveCall s p p w w b before before 9
+  improve-unanswered h = record {
+    wrong-length = λ _. record { nine = refl; unwritten = refl };
+    unanswered = λ _. (refl, refl);
+    answered = λ e. absurd (h e);
+    left = λ e. absurd (h e);
+    untouched = λ e. absurd (h e);
+    means = λ e. absurd (h e);
+  }
+
+  pub improve-answered : length before ≡ 56 → (p′ w′ : List ℕ) (v : Verdict) (added size finished count : ℕ) (t : Told) (mid after : List ℕ) → Improve s p p′ w w′ b v added size finished count
+      → t ≡ toldOf v → mid ≡ putLong (putLong (putLong before 0 (t .no)) 1 (t .a)) 2 (t .b) → after ≡ putLong (putLong (putLong (putLong mid 3 added) 4 size) 5 finished) 6 count
+      → ImproveCall s p p′ w w′ b before after (t .no)
+  improve-answered e p′ w′ v added size finished count t mid after k et q f =
+      let same : t ≡ toldOf (improveVerdict s p w) = et ∙ ap toldOf (k .is) in
+      let c = k .chosen in
+      record {
+        wrong-length = λ h. absurd (h e);
+        unanswered = λ h. absurd (h e);
+        answered = λ _. record {
+          number = ap (λ (u : Told). u .no) same;
+          written = f ∙ rw (q, c .added-is, c .size-is, c .finished-is, c .sessions-is)
+              (put-seven before (t .no) (t .a) (t .b) (addedOf s p w b) (sizeAfter s p w b) (finishedOf s p w b) (sessionsAfter s p w b) e)
+              ∙ ap (λ (u : Told). longsOf (u .no ∷ u .a ∷ u .b ∷ addedOf s p w b ∷ sizeAfter s p w b ∷ finishedOf s p w b ∷ sessionsAfter s p w b ∷ [])) same;
+        };
+        left = λ _. (c .pairing-is, c .witness-is);
+        untouched = λ _ h. k .refused (not-zero v (λ z. h (ap (λ (u : Told). u .no) et ∙ z)));
+        means = λ _ z. rw (← c .added-is, ← c .size-is, ← c .finished-is, ← c .sessions-is)
+            (k .means (k .is ∙ sharp-improve s p w (sym (ap (λ (u : Told). u .no) same) ∙ z)));
+      }
+
+-- ---- two calls
+
+module _ (s p p₁ p₂ w w₁ w₂ : List ℕ) (a b : ℕ) (x x′ y y′ : List ℕ) (r₁ r₂ : ℕ) where
+  pub two-calls : length x ≡ 56 → length y ≡ 56 → ImproveCall s p p₁ w w₁ a x x′ r₁ → ImproveCall s p₁ p₂ w₁ w₂ b y y′ r₂ → TwoCalls s p p₂ w w₂ a b x′ y′ r₂
+  two-calls ex ey f g =
+      let n = f .left ex in
+      let k = g .left ey in
+      let h : ImproveCall s (pairingAfter s p w a) p₂ (witnessAfter s p w a) w₂ b y y′ r₂ = rw (n .0, n .1) at g in
+      let i = h .left ey in
+      record {
+        left = (i .0 ∙ pairing-twice s p w a b, i .1 ∙ witness-twice s p w a b);
+        one = addedOf s p w a;
+        two = addedOf s (pairingAfter s p w a) (witnessAfter s p w a) b;
+        sum = added-twice s p w a b;
+        answered-first = (r₁, f .answered ex);
+        answered-second = rw (← verdict-twice s p w a b, ← size-twice s p w a b, ← finished-twice s p w a b, ← sessions-twice s p w a b) (h .answered ey);
       }

@@ -1,6 +1,6 @@
 -- The exported calls: for each the result, and what every byte of every buffer that may be written then holds. The sheet is lent to be read alone, and so
--- are pairing and witness here.
-use Prim.Native.Nat.{ℕ, _-_, _^_}
+-- are pairing and witness of the checker.
+use Prim.Native.Nat.{ℕ, _+_, _-_, _^_}
 use mathlib.Core.Path.{_≡_}
 use mathlib.Core.Logic.{_↔_}
 use mathlib.Core.List.{List, [], _∷_}
@@ -9,9 +9,11 @@ use lib.ListN.{length}
 use Rattle.words.specs.Words.{longsOf}
 use Rattle.rows.specs.Sheet.{graphOf}
 use Rattle.witness.specs.Given.{mateOf}
-use Rattle.witness.specs.Verdict.{toldOf, checkOf, surplusVerdict, surplusOf, partsVerdict, oddOf, membersOf, partsBytes}
+use Rattle.witness.specs.Verdict.{toldOf, improveVerdict, checkOf, surplusVerdict, surplusOf, partsVerdict, oddOf, membersOf, partsBytes}
 use Rattle.witness.specs.Promise.{Shown, Maximum}
 use Rattle.witness.specs.declared.Verdict.{Verdict}
+use Rattle.improve.specs.Choice.{pairingAfter, witnessAfter, addedOf, sizeAfter, finishedOf, sessionsAfter}
+use Rattle.improve.specs.Promise.{Means}
 
 -- an answer buffer of another length than it should have: the result is 9, and nothing is written
 pub record Unanswered (before after : List ℕ) (r : ℕ) : Type 0 where
@@ -46,3 +48,25 @@ pub record PartsCall (s witness lent parts before after : List ℕ) (r : ℕ) : 
   pub untouched : (length before ≡ 40 → ⊥) → parts ≡ lent
   pub answered : length before ≡ 40 → Answered (partsVerdict s witness lent) (oddOf s witness lent ∷ membersOf s witness lent ∷ []) after r
   pub filled : length before ≡ 40 → parts ≡ partsBytes s witness lent
+
+-- wisharek_improve, with the budget b: p and w are the bytes of pairing and witness before, p′ and w′ after
+pub record ImproveCall (s p p′ w w′ : List ℕ) (b : ℕ) (before after : List ℕ) (r : ℕ) : Type 0 where
+  pub wrong-length : (length before ≡ 56 → ⊥) → Unanswered before after r
+  pub unanswered : (length before ≡ 56 → ⊥) → (p′ ≡ p) × (w′ ≡ w)
+  pub answered : length before ≡ 56 → Answered (improveVerdict s p w) (addedOf s p w b ∷ sizeAfter s p w b ∷ finishedOf s p w b ∷ sessionsAfter s p w b ∷ []) after r
+  -- the choice: which bytes are left, refused or not
+  pub left : length before ≡ 56 → (p′ ≡ pairingAfter s p w b) × (w′ ≡ witnessAfter s p w b)
+  -- a refusal leaves them as they were
+  pub untouched : length before ≡ 56 → (r ≡ 0 → ⊥) → (p′ ≡ p) × (w′ ≡ w)
+  -- and an accepted call means what the customer demands
+  pub means : length before ≡ 56 → r ≡ 0 → Means s p p′ w w′ b (addedOf s p w b) (sizeAfter s p w b) (finishedOf s p w b) (sessionsAfter s p w b)
+
+-- two calls in a row on the same pairing and witness, with the budgets a and b. They leave the bytes that one call with the budget a + b leaves; the second
+-- answers what that one answers, but for the pairs added; and those of both sum up to its
+pub record TwoCalls (s p p′ w w′ : List ℕ) (a b : ℕ) (first second : List ℕ) (r : ℕ) : Type 0 where
+  pub left : (p′ ≡ pairingAfter s p w (a + b)) × (w′ ≡ witnessAfter s p w (a + b))
+  pub one : ℕ
+  pub two : ℕ
+  pub sum : one + two ≡ addedOf s p w (a + b)
+  pub answered-first : (x : ℕ) × Answered (improveVerdict s p w) (one ∷ sizeAfter s p w a ∷ finishedOf s p w a ∷ sessionsAfter s p w a ∷ []) first x
+  pub answered-second : Answered (improveVerdict s p w) (two ∷ sizeAfter s p w (a + b) ∷ finishedOf s p w (a + b) ∷ sessionsAfter s p w (a + b) ∷ []) second r

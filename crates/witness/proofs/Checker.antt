@@ -24,8 +24,8 @@ use Rattle.sheet.proofs.Firsts.{not-refused}
 use Rattle.sheet.proofs.Read.{simple, order-most}
 use Rattle.witness.specs.Given.{mateOf, setOf}
 use Rattle.witness.specs.Cause.{causeOf, wrong, firstWrong}
-use Rattle.witness.specs.Verdict.{refuses, first, isCount, sheetVerdict, pairingLength, witnessLength, partnerVerdict, markVerdict, boundVerdict, checkOf, surplusVerdict, partsLength, partsVerdict}
-use Rattle.witness.specs.Promise.{PairingBytes, SetBytes, Shown, Maximum, Checked}
+use Rattle.witness.specs.Verdict.{refuses, first, isCount, sheetVerdict, pairingLength, witnessLength, partnerVerdict, markVerdict, boundVerdict, improveVerdict, checkOf, surplusVerdict, partsLength, partsVerdict}
+use Rattle.witness.specs.Promise.{PairingBytes, SetBytes, Begins, Shown, Maximum, Checked}
 use Rattle.witness.specs.declared.partners.Cause.the-variants.{Sound, NoRoute, Itself, Stranger, OneSided}
 use Rattle.witness.specs.declared.Verdict.{Verdict}
 use Rattle.witness.specs.declared.Verdict.the-variants.{Accepted, Sheet, PairingLength, WitnessLength, PartsLength, Partner, Mark, NotShown}
@@ -200,47 +200,61 @@ bound-iff g mate A = (
 
 module _ (s pairing witness : List ℕ) where
   -- the checks from the last back
-  abbrev from-mark : Verdict
-  from-mark = first (markVerdict (order s) witness) (boundVerdict (graphOf s) (mateOf pairing) (setOf witness))
-
-  abbrev from-partner : Verdict
-  from-partner = first (partnerVerdict (graphOf s) (mateOf pairing)) from-mark
-
   abbrev from-witness : Verdict
-  from-witness = first (witnessLength (order s) witness) from-partner
+  from-witness = first (witnessLength (order s) witness) (partnerVerdict (graphOf s) (mateOf pairing))
 
   abbrev from-pairing : Verdict
   from-pairing = first (pairingLength (order s) pairing) from-witness
 
-  pub accepts : checkOf s pairing witness ≡ Accepted → Shown s pairing witness
-  unfolding checkOf
-  accepts h =
+  abbrev from-mark : Verdict
+  from-mark = first (markVerdict (order s) witness) (boundVerdict (graphOf s) (mateOf pairing) (setOf witness))
+
+  pub begins : improveVerdict s pairing witness ≡ Accepted → Begins s pairing witness
+  unfolding improveVerdict
+  begins h =
       let a = first-iff (sheetVerdict s) from-pairing .0 h in
       let b = first-iff (pairingLength (order s) pairing) from-witness .0 (a .1) in
-      let c = first-iff (witnessLength (order s) witness) from-partner .0 (b .1) in
-      let d = first-iff (partnerVerdict (graphOf s) (mateOf pairing)) from-mark .0 (c .1) in
-      let e = first-iff (markVerdict (order s) witness) (boundVerdict (graphOf s) (mateOf pairing) (setOf witness)) .0 (d .1) in
+      let c = first-iff (witnessLength (order s) witness) (partnerVerdict (graphOf s) (mateOf pairing)) .0 (b .1) in
       let ok = sheet-iff s .0 (a .0) in
       record {
         accepted = ok;
-        partners = partners-valid s pairing ok (pairing-iff (order s) pairing .0 (b .0)) (partner-iff (graphOf s) (mateOf pairing) .0 (d .0));
-        marks = record {
-          long = witness-iff (order s) witness .0 (c .0);
-          marks = λ v l. ltb-false 1 (getD witness v 0) (mark-iff (order s) witness .0 (e .0) v l);
-        };
-        tight = bound-iff (graphOf s) (mateOf pairing) (setOf witness) .0 (e .1);
+        partners = partners-valid s pairing ok (pairing-iff (order s) pairing .0 (b .0)) (partner-iff (graphOf s) (mateOf pairing) .0 (c .1));
+        long = witness-iff (order s) witness .0 (c .0);
+      }
+
+  pub begins-accepted : Begins s pairing witness → improveVerdict s pairing witness ≡ Accepted
+  unfolding improveVerdict
+  begins-accepted h =
+      let ok = h .accepted in
+      let d = partner-iff (graphOf s) (mateOf pairing) .1 (valid-partners s pairing ok (h .partners)) in
+      let c = first-iff (witnessLength (order s) witness) (partnerVerdict (graphOf s) (mateOf pairing)) .1 (witness-iff (order s) witness .1 (h .long), d) in
+      let b = first-iff (pairingLength (order s) pairing) from-witness .1 (pairing-iff (order s) pairing .1 (h .partners .long), c) in
+      first-iff (sheetVerdict s) from-pairing .1 (sheet-iff s .1 ok, b)
+
+  -- what the checks of improve have shown, where none has refused
+  pub passed-improve : (r : Verdict) (b : Bool) → r ≡ improveVerdict s pairing witness → b ≡ refuses r → b ≡ false → Begins s pairing witness
+  passed-improve r b e f t = begins (sym e ∙ accepted-fine r (sym f ∙ t))
+
+  pub accepts : checkOf s pairing witness ≡ Accepted → Shown s pairing witness
+  unfolding checkOf
+  accepts h =
+      let a = first-iff (improveVerdict s pairing witness) from-mark .0 h in
+      let b = first-iff (markVerdict (order s) witness) (boundVerdict (graphOf s) (mateOf pairing) (setOf witness)) .0 (a .1) in
+      let start = begins (a .0) in
+      record {
+        accepted = start .accepted;
+        partners = start .partners;
+        marks = record { long = start .long; marks = λ v l. ltb-false 1 (getD witness v 0) (mark-iff (order s) witness .0 (b .0) v l) };
+        tight = bound-iff (graphOf s) (mateOf pairing) (setOf witness) .0 (b .1);
       }
 
   pub shown-accepted : Shown s pairing witness → checkOf s pairing witness ≡ Accepted
   unfolding checkOf
   shown-accepted h =
-      let ok = h .accepted in
-      let e = first-iff (markVerdict (order s) witness) (boundVerdict (graphOf s) (mateOf pairing) (setOf witness)) .1
+      let b = first-iff (markVerdict (order s) witness) (boundVerdict (graphOf s) (mateOf pairing) (setOf witness)) .1
       (mark-iff (order s) witness .1 (λ v l. le-ltb 1 (getD witness v 0) (h .marks .marks v l)), bound-iff (graphOf s) (mateOf pairing) (setOf witness) .1 (h .tight)) in
-      let d = first-iff (partnerVerdict (graphOf s) (mateOf pairing)) from-mark .1 (partner-iff (graphOf s) (mateOf pairing) .1 (valid-partners s pairing ok (h .partners)), e) in
-      let c = first-iff (witnessLength (order s) witness) from-partner .1 (witness-iff (order s) witness .1 (h .marks .long), d) in
-      let b = first-iff (pairingLength (order s) pairing) from-witness .1 (pairing-iff (order s) pairing .1 (h .partners .long), c) in
-      first-iff (sheetVerdict s) from-pairing .1 (sheet-iff s .1 ok, b)
+      let a = begins-accepted (record { accepted = h .accepted; partners = h .partners; long = h .marks .long }) in
+      first-iff (improveVerdict s pairing witness) from-mark .1 (a, b)
 
   -- what is shown is maximum
   pub shown-maximum : Shown s pairing witness → Maximum (graphOf s) (mateOf pairing)

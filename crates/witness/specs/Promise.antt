@@ -36,6 +36,12 @@ pub record SetBytes (s witness : List ℕ) : Type 0 where
   pub long : length witness ≡ order s
   pub marks : (v : ℕ) → v < order s → getD witness v 0 ≤ 1
 
+-- what improve may begin from: the sheet is accepted, the bytes are a pairing of it, and the witness has a byte for each route
+pub record Begins (s pairing witness : List ℕ) : Type 0 where
+  pub accepted : replyOf s ≡ sheet.Accepted
+  pub partners : PairingBytes s pairing
+  pub long : length witness ≡ order s
+
 -- the set meets the bound: the unpaired routes are as many as its surplus
 pub record Shown (s pairing witness : List ℕ) : Type 0 where
   pub accepted : replyOf s ≡ sheet.Accepted

@@ -1,4 +1,4 @@
--- The answers of surplus, parts and checker: document 01's refusals 1 to 12, each check in its place.
+-- The answers of surplus, parts, checker and improve: document 01's refusals 1 to 12, each check in its place.
 use Prim.Native.Nat.{ℕ, _*_}
 use mathlib.Core.Bool.{Bool, true, false, cond}
 use mathlib.Core.List.{List}
@@ -84,15 +84,20 @@ isCount (negsuc k) u = false
 unfoldable pub boundVerdict : Graph → (ℕ → ℕ) → (ℕ → Bool) → Verdict
 boundVerdict g mate A = cond (isCount (surplus g A) (unpaired g mate)) Accepted (NotShown (unpaired g mate))
 
--- the checker: 1 to 12
-unfoldable pub checkOf : List ℕ → List ℕ → List ℕ → Verdict
-checkOf s pairing witness =
+-- improve: 1 to 10
+unfoldable pub improveVerdict : List ℕ → List ℕ → List ℕ → Verdict
+improveVerdict s pairing witness =
     first (sheetVerdict s)
     (first (pairingLength (order s) pairing)
     (first (witnessLength (order s) witness)
-    (first (partnerVerdict (graphOf s) (mateOf pairing))
+    (partnerVerdict (graphOf s) (mateOf pairing))))
+
+-- the checker: those, then 11 and 12
+unfoldable pub checkOf : List ℕ → List ℕ → List ℕ → Verdict
+checkOf s pairing witness =
+    first (improveVerdict s pairing witness)
     (first (markVerdict (order s) witness)
-    (boundVerdict (graphOf s) (mateOf pairing) (setOf witness))))))
+    (boundVerdict (graphOf s) (mateOf pairing) (setOf witness)))
 
 -- the surplus: 1 to 7, 9, 11
 unfoldable pub surplusVerdict : List ℕ → List ℕ → Verdict

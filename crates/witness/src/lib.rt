@@ -26,12 +26,12 @@ ghost use Rattle.sheet.specs.Reply.{replyOf};
 ghost use Rattle.sheet.specs.declared.Reply.the-variants.{Accepted};
 ghost use Rattle.parts.specs.Parts.{Ready};
 ghost use Rattle.witness.specs.Given.{mateOf, setOf};
-ghost use Rattle.witness.specs.Verdict.{toldOf, refuses, sheetVerdict, pairingLength, witnessLength, partsLength, partnerVerdict, markVerdict, boundVerdict, surplusVerdict, partsVerdict, partName};
+ghost use Rattle.witness.specs.Verdict.{toldOf, refuses, sheetVerdict, pairingLength, witnessLength, partsLength, partnerVerdict, markVerdict, boundVerdict, improveVerdict, surplusVerdict, partsVerdict, partName};
 ghost use Rattle.witness.specs.Promise.{Checked, Parted, Surplus, Weighs};
 
 mod partners;
 
-// What surplus, parts and checker answer.
+// What surplus, parts, checker and improve answer.
 pub enum Verdict {
     // nothing to refuse
     Accepted,
@@ -243,9 +243,9 @@ fn bound_verdict(s: &[u8], pairing: &[u8], witness: &[u8]) -> Verdict
     Verdict::NotShown { unpaired: free }
 }
 
-// The checker.
-pub fn check(s: &[u8], pairing: &[u8], witness: &[u8]) -> Verdict
-    ensures { λ r. ⌜ Checked (now (s .entry)) (now (pairing .entry)) (now (witness .entry)) r ⌝ }
+// The checks of improve: 1 to 10.
+pub fn improve_verdict(s: &[u8], pairing: &[u8], witness: &[u8]) -> Verdict
+    ensures { λ r. ⌜ r ≡ improveVerdict (now (s .entry)) (now (pairing .entry)) (now (witness .entry)) ⌝ }
 {
     let a = sheet_verdict(s);
     if refuses(a) {
@@ -260,13 +260,20 @@ pub fn check(s: &[u8], pairing: &[u8], witness: &[u8]) -> Verdict
     if refuses(c) {
         return c;
     }
-    let d = partner_verdict(s, pairing);
-    if refuses(d) {
-        return d;
+    partner_verdict(s, pairing)
+}
+
+// The checker: those, then 11 and 12.
+pub fn check(s: &[u8], pairing: &[u8], witness: &[u8]) -> Verdict
+    ensures { λ r. ⌜ Checked (now (s .entry)) (now (pairing .entry)) (now (witness .entry)) r ⌝ }
+{
+    let a = improve_verdict(s, pairing, witness);
+    if refuses(a) {
+        return a;
     }
-    let e = mark_verdict(n, witness);
-    if refuses(e) {
-        return e;
+    let b = mark_verdict(order(s), witness);
+    if refuses(b) {
+        return b;
     }
     bound_verdict(s, pairing, witness)
 }

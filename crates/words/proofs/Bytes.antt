@@ -8,7 +8,8 @@ use native.Mathlib.Omega.{arith}
 use native.Mathlib.Numerals.{add-one}
 use lib.Dec.{ltb}
 use lib.ListN.{length, getD, set, take, drop, length-append, length-map, length-set, length-take, length-drop, drop-of-length-le, List·getD-map, List·getD-eq-default}
-use lib.Seq.{sets, sets-eq, take-append-seam, drop-append-add, drop-drop, drop-cons, getD-set-same, getD-set-other, getD-take, getD-drop}
+use native.Mathlib.Decide.{ℕ-discrete}
+use lib.Seq.{take-all, take-suc, set-at, sets, sets-eq, take-append-seam, drop-append-add, drop-drop, drop-cons, getD-set-same, getD-set-other, getD-take, getD-drop}
 use borrow.Author.Tests.{lt-ltb, le-ltb, ltb-true, ltb-false}
 use Rattle.limits.specs.Limits.{none}
 use Rattle.theory.specs.Parts.{run}
@@ -196,6 +197,43 @@ fill-end f s t k n e h l p =
     let m : k ≡ n = omega arith in
     p ∙ rw (m, drop-of-length-le s {i = 4 * n} (omega arith), append-nil)
 
+module _ (f : ℕ → ℕ) (n : ℕ) where
+  -- the first k numbers put over the whole
+  abbrev partly : ℕ → List ℕ
+  partly k = bytesTo f k ++ drop (4 * k) (bytesTo f n)
+
+  partly-long : (k : ℕ) → k ≤ n → length (partly k) ≡ 4 * n
+  partly-long k l = length-append (bytesTo f k) (drop (4 * k) (bytesTo f n)) ∙ omega (arith, bytesTo-length f k, bytesTo-length f n, length-drop (4 * k) (bytesTo f n))
+
+  partly-next : (k : ℕ) → suc k ≤ n → putWord (partly k) k (f k) ≡ partly (suc k)
+  partly-next k l = rw (add-one k) at (fill-again f (bytesTo f n) (partly k) k (f k) (omega (arith, bytesTo-length f n)) refl refl)
+
+  partly-word : (v : ℕ) → f v < 4294967296 → (k : ℕ) → k ≤ n → v < k → word (partly k) v ≡ f v
+  partly-word v small zero l i = absurd (omega arith)
+  partly-word v small (suc k) l i = ap (λ (s : List ℕ). word s v) (sym (partly-next k l)) ∙ go (ℕ-discrete v k) (λ j. partly-word v small k (omega arith) j)
+    where
+      go : Dec (v ≡ k) → (v < k → word (partly k) v ≡ f v) → word (putWord (partly k) k (f k)) v ≡ f v
+      go (yes e) r = rw (← e) (put-same (partly v) v (f v) (omega (arith, partly-long v (omega arith))) small)
+      go (no e) r = put-other (partly k) k (f k) v e ∙ r (omega arith)
+
+  -- what is put is read: number v of the bytes is f v
+  pub bytesTo-word : (v : ℕ) → v < n → f v < 4294967296 → word (bytesTo f n) v ≡ f v
+  bytesTo-word v h small =
+      let whole = fill-end f (bytesTo f n) (partly n) n n (bytesTo-length f n) (omega arith) (omega arith) refl in
+      ap (λ (s : List ℕ). word s v) (sym whole) ∙ partly-word v small n (omega arith) h
+
+-- ---- a list filled cell by cell
+
+-- the invariant of a loop that sets cell 0, cell 1, .. to the cells of t: those of t, and then what was there
+pub cells-again : (t l₀ l : List ℕ) (k x : ℕ) → k < length t → k < length l₀ → l ≡ take k t ++ drop k l₀ → x ≡ getD t k 0 → set l k x ≡ take (k + 1) t ++ drop (k + 1) l₀
+cells-again t l₀ l k x h h₀ e q =
+    let n : length (take k t) ≡ k = omega (arith, length-take k t) in
+    rw (e, q, add-one k, drop-cons l₀ k 0 h₀, take-suc t k 0 h)
+    (set-at (take k t) (getD l₀ k 0) (drop (suc k) l₀) (getD t k 0) k n ∙ sym (append-assoc (take k t) (getD t k 0 ∷ []) (drop (suc k) l₀)))
+
+pub cells-end : (t l₀ l : List ℕ) (k : ℕ) → length t ≡ length l₀ → length l₀ ≤ k → l ≡ take k t ++ drop k l₀ → l ≡ t
+cells-end t l₀ l k e h p = p ∙ rw (drop-of-length-le l₀ {i = k} h, take-all k t (omega arith), append-nil)
+
 -- long numbers put at 0, 1, .. fill a buffer of their length
 putAll : List ℕ → ℕ → List ℕ → List ℕ
 putAll s k [] = s
@@ -225,3 +263,8 @@ pub put-five : (s : List ℕ) (a b c d f : ℕ) → length s ≡ 40
     → putLong (putLong (putLong (putLong (putLong s 0 a) 1 b) 2 c) 3 d) 4 f ≡ longsOf (a ∷ b ∷ c ∷ d ∷ f ∷ [])
 unfolding putAll
 put-five s a b c d f e = put-all (a ∷ b ∷ c ∷ d ∷ f ∷ []) [] s 0 refl e
+
+pub put-seven : (s : List ℕ) (a b c d f g h : ℕ) → length s ≡ 56
+    → putLong (putLong (putLong (putLong (putLong (putLong (putLong s 0 a) 1 b) 2 c) 3 d) 4 f) 5 g) 6 h ≡ longsOf (a ∷ b ∷ c ∷ d ∷ f ∷ g ∷ h ∷ [])
+unfolding putAll
+put-seven s a b c d f g h e = put-all (a ∷ b ∷ c ∷ d ∷ f ∷ g ∷ h ∷ []) [] s 0 refl e

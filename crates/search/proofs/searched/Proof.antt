@@ -18,7 +18,7 @@ returns c =
     _ _ _ _ _ _ _ _ _ _ _ _ _ _ _ _ _
     (c .before .before .before .before .before .before .before .before .before .before .before .before .before .before .before .run-queue .ensures)
     (c .before .before .before .before .before .before .before .before .before .before .before .before .before .before .if1 .taken) _ _
-    (c .before .before .before .augmented .ensures) (c .outward .ensures)
+    (c .before .before .before .augmented .ensures) (c .outward .ensures) _
 
 returns-2 : tie.Need-returns-2
 returns-2 c =
@@ -29,7 +29,7 @@ returns-2 c =
     (c .before .before .before .before .before .before .before .before .before .before .before .before .before .before .before .before .before .before .before .before .before .fill-groups .ensures)
     (c .before .before .before .before .before .before .before .before .before .before .before .before .before .before .before .before .before .before .before .fill-groups2 .ensures)
     (c .before .before .before .before .before .before .before .before .before .before .before .before .before .before .before .seed .ensures)
-    _ _ _ _ _ _ _ _ _ _ _ _ _ _ _ _ _ (c .before .run-queue .ensures) (c .if1 .left)
+    _ _ _ _ _ _ _ _ _ _ _ _ _ _ _ _ _ (c .before .run-queue .ensures) (c .if1 .left) _
 
 pub searched-spec : {M : Type 1} → statement M
 searched-spec =

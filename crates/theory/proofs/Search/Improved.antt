@@ -14,11 +14,11 @@ use Rattle.theory.specs.Pairing.{paired, pairs}
 use Rattle.theory.specs.Largest.{Largest}
 use Rattle.theory.specs.Search.Tables.{groups}
 use Rattle.theory.specs.Search.Searched.{Outcome, found, stuck, after, searchedIn, improvedIn}
-use Rattle.theory.specs.Search.Promise.{mateOf, Valid, Fits, Promise}
+use Rattle.theory.specs.Search.Promise.{mateOf, Valid, Tidy, Fits, Promise}
 use Rattle.theory.proofs.Count.{count-le}
 use Rattle.theory.proofs.Largest.{largest-one}
 use Rattle.theory.proofs.Search.Cells.{length-rep}
-use Rattle.theory.proofs.Search.Searched.{search-found, search-stuck}
+use Rattle.theory.proofs.Search.Searched.{search-found, search-tidy, search-stuck}
 
 -- ---- two calls are one
 
@@ -27,6 +27,19 @@ unfolding improvedIn
 improved-add room g p a zero = ap (improvedIn room g p) (sym (add-zero a))
 improved-add room g p a (suc b) =
     ap (λ (q : List ℕ). after (searchedIn room g q) q) (improved-add room g p a b) ∙ ap (improvedIn room g p) (sym (add-suc a b))
+
+-- ---- once stuck, always stuck
+
+pub stuck-stays : (room : ℕ) (g : Graph) (p a : List ℕ) → searchedIn room g p ≡ stuck a → (b : ℕ) → improvedIn room g p b ≡ p
+unfolding improvedIn
+stuck-stays room g p a e zero = refl
+stuck-stays room g p a e (suc b) =
+    ap (λ (q : List ℕ). after (searchedIn room g q) q) (stuck-stays room g p a e b) ∙ ap (λ (o : Outcome). after o p) e
+
+-- the loop of the searches stops at the first that is stuck
+pub improved-left : (room : ℕ) (g : Graph) (p : List ℕ) (k b : ℕ) (q a : List ℕ) → k ≤ b → q ≡ improvedIn room g p k → searchedIn room g q ≡ stuck a → q ≡ improvedIn room g p b
+improved-left room g p k b q a l h e =
+    sym (stuck-stays room g q a e (b - k)) ∙ ap (λ (r : List ℕ). improvedIn room g r (b - k)) h ∙ improved-add room g p k (b - k) ∙ ap (improvedIn room g p) (omega arith)
 
 -- ---- either way out
 
@@ -77,6 +90,15 @@ module _ {room : ℕ} {g : Graph} (S : Simple g) (N : Fits room g) where
 
     pub improved-valid : (b : ℕ) → Valid g (improvedIn room g p b)
     improved-valid b = kept b .valid
+
+    pub improved-tidy : Tidy g p → (b : ℕ) → Tidy g (improvedIn room g p b)
+    unfolding improvedIn
+    improved-tidy T zero = T
+    improved-tidy T (suc b) = go (improved-tidy T b) (searchedIn room g (improvedIn room g p b)) refl
+      where
+        go : Tidy g (improvedIn room g p b) → (o : Outcome) → searchedIn room g (improvedIn room g p b) ≡ o → Tidy g (after o (improvedIn room g p b))
+        go t (found r) e = search-tidy S N (improved-valid b) r e t
+        go t (stuck a) e = t
 
     pub improved-length : (b : ℕ) → length (improvedIn room g p b) ≡ length p
     improved-length b = kept b .size

@@ -1,6 +1,6 @@
 -- The pairing outside, where a route with no partner has none, and inside, where it is its own partner. Assumes nothing.
 use mathlib.Core.Path.{_≡_, refl, sym, ap, _∙_, subst}
-use mathlib.Core.Logic.{_≢_}
+use mathlib.Core.Logic.{_≢_, _⊎_, inl, inr}
 use mathlib.Core.Bool.{true, not}
 use mathlib.Core.List.{List}
 use Prim.Native.Nat.{ℕ, zero, suc, _≤_, _<_}
@@ -148,6 +148,14 @@ module _ (room : ℕ) (m : List ℕ) where
       go (yes e) f = ap (mateOf (set (outward room m k p) k (noneOr room m k))) e ∙ getD-set-same (outward room m k p) k (noneOr room m k) none (omega (arith, outward-length k p)) ∙ ap (noneOr room m) (sym e)
       go (no e) f = getD-set-other (outward room m k p) k v (noneOr room m k) none e ∙ f (omega arith)
 
+  -- past the routes, what was there
+  pub outward-past : (k : ℕ) (p : List ℕ) (v : ℕ) → k ≤ room → k ≤ v → mateOf (outward room m k p) v ≡ mateOf p v
+  unfolding outward
+  outward-past zero p v r h = refl
+  outward-past (suc k) p v r h =
+      subst (λ (l : List ℕ). mateOf l v ≡ mateOf p v) (sym (store-in room (outward room m k p) k (noneOr room m k) r))
+      (getD-set-other (outward room m k p) k v (noneOr room m k) none (omega arith) ∙ outward-past k p v (omega arith) (omega arith))
+
 module _ (room n : ℕ) (m p : List ℕ) (fits : n ≤ room) (small : n ≤ none) (long : n ≤ length p) (m-long : length m ≡ room)
     (ins : (v : ℕ) → v < n → partner m v < n) (past : (v : ℕ) → n ≤ v → partner m v ≡ v) where
   -- a route: free, or with a partner
@@ -159,6 +167,10 @@ module _ (room n : ℕ) (m p : List ℕ) (fits : n ≤ room) (small : n ≤ none
       cases (eqb (cell room m v) v)
       (λ t. f (e ∙ eqb-true (cell room m v) v t) (o ∙ rw t refl))
       (λ t. g (λ q. eqb-false (cell room m v) v t (sym e ∙ q)) (o ∙ rw t (sym e)))
+
+  -- a route has a partner or none
+  pub outward-tidy : (v : ℕ) → v < n → (mateOf (outward room m n p) v ≡ none) ⊎ (mateOf (outward room m n p) v < n)
+  outward-tidy v i = out-cases v i (λ a b. inl b) (λ a b. inr (omega (arith, b, ins v i)))
 
   pub outward-twin : Twin n (mateOf (outward room m n p)) m
   outward-twin = record {

@@ -1,7 +1,7 @@
 -- The theorems of one search: what it finds is one pair more (`search-found`), and where it is stuck the inner routes meet the bound, so that no pairing has
 -- more pairs (`search-stuck`). Assumes nothing.
 use mathlib.Core.Path.{_≡_, refl, sym, ap, _∙_, subst}
-use mathlib.Core.Logic.{_≢_}
+use mathlib.Core.Logic.{_≢_, _⊎_}
 use mathlib.Core.Bool.{Bool, true, false}
 use mathlib.Core.List.{List, [], _∷_, map}
 use Prim.Native.Nat.{ℕ, zero, suc, _+_, _≤_, _<_}
@@ -21,7 +21,7 @@ use Rattle.theory.specs.Search.Start.{start}
 use Rattle.theory.specs.Search.Look.{run}
 use Rattle.theory.specs.Search.Expose.{augmented}
 use Rattle.theory.specs.Search.Searched.{inward, outward, mark, begun, ended, Outcome, found, stuck, searchedIn}
-use Rattle.theory.specs.Search.Promise.{mateOf, Valid, Fits, Gained, Shown}
+use Rattle.theory.specs.Search.Promise.{mateOf, Valid, Tidy, Fits, Gained, Shown}
 use Rattle.theory.proofs.Count.{cases}
 use Rattle.theory.proofs.Parts.{map-at}
 use Rattle.theory.proofs.Pairing.{pairs-unpaired, mate-moves}
@@ -37,7 +37,7 @@ use Rattle.theory.proofs.Search.Ready.{Adj, bounded, Ready, forest}
 use Rattle.theory.proofs.Search.Look.{Hunt, Swept, run-swept, run-mate}
 use Rattle.theory.proofs.Search.Start.{start-hunt}
 use Rattle.theory.proofs.Search.Raise.{Better, augmented-better, augmented-length}
-use Rattle.theory.proofs.Search.Outside.{Twin, inside-in, partner-out, pairing-in, pairing-out, unpaired-total, inward-twin, inward-long, outward-twin, outward-length}
+use Rattle.theory.proofs.Search.Outside.{Twin, inside-in, partner-out, pairing-in, pairing-out, unpaired-total, inward-twin, inward-long, outward-past, outward-tidy, outward-twin, outward-length}
 
 -- ---- the outcome
 
@@ -118,9 +118,20 @@ module _ {g : Graph} {room : ℕ} {p : List ℕ} (S : Simple g) (N : Fits room g
         go (yes k) = k
         go (no k) = absurd (omega (arith, h, better .pairing .real v k .0))
 
+    A-long : length A ≡ room
+    A-long = augmented-length room s ∙ ap length mate-is ∙ M-long
+
     twin-q : Twin n (mateOf q) A
     twin-q = subst (λ (l : List ℕ). Twin n (mateOf l) A) (sym (hits .1))
-        (outward-twin room n A p (N .routes) (omega (arith, N .routes, N .small)) (Y .long) (augmented-length room s ∙ ap length mate-is ∙ M-long) ins past)
+        (outward-twin room n A p (N .routes) (omega (arith, N .routes, N .small)) (Y .long) A-long ins past)
+
+    -- a tidy list stays tidy
+    pub search-tidy : Tidy g p → Tidy g q
+    search-tidy T = record {
+      partners = λ v i. subst (λ (l : List ℕ). (mateOf l v ≡ none) ⊎ (mateOf l v < n)) (sym (hits .1))
+          (outward-tidy room n A p (N .routes) (omega (arith, N .routes, N .small)) (Y .long) A-long ins past v i);
+      past = λ v h. ap (λ (l : List ℕ). mateOf l v) (hits .1) ∙ outward-past room A n p v (N .routes) h ∙ T .past v h;
+    }
 
     valid-q : Valid g q
     valid-q = record { long = omega (arith, ap length (hits .1), outward-length room A n p, Y .long); pairing = pairing-out S twin-q (better .pairing) }

@@ -1,6 +1,6 @@
 -- What a search promises, for a simple graph and a pairing of it. Shown in `proofs/Search/Searched.antt` and `Improved.antt`. Assumes nothing.
 use mathlib.Core.Path.{_≡_}
-use mathlib.Core.Logic.{_↔_}
+use mathlib.Core.Logic.{_↔_, _⊎_}
 use mathlib.Core.List.{List}
 use Prim.Native.Nat.{ℕ, suc, _+_, _-_, _≤_, _<_, min}
 use lib.IntN.{pos}
@@ -21,6 +21,11 @@ mateOf p v = getD p v none
 pub record Valid (g : Graph) (p : List ℕ) : Type 0 where
   pub long : g .order ≤ length p
   pub pairing : Pairing g (mateOf p)
+
+-- a route has a partner or none, and past the routes there is none
+pub record Tidy (g : Graph) (p : List ℕ) : Type 0 where
+  pub partners : (v : ℕ) → v < g .order → (mateOf p v ≡ none) ⊎ (mateOf p v < g .order)
+  pub past : (v : ℕ) → g .order ≤ v → mateOf p v ≡ none
 
 -- the tables have room for the routes, and none is the number of no group, so of no route
 pub record Fits (room : ℕ) (g : Graph) : Type 0 where

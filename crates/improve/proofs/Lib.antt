@@ -1,0 +1,6 @@
+mod Written
+mod Climbing
+pub mod Meaning
+mod Working
+pub mod Calls
+pub mod Twice

@@ -1,0 +1,67 @@
+-- The choice: what a call of improve leaves, as functions of the bytes that it was lent. Nothing is left open. Assumes nothing.
+use Prim.Native.Nat.{ℕ, _-_}
+use mathlib.Core.Bool.{Bool, cond}
+use mathlib.Core.List.{List, map}
+use lib.ListN.{getD}
+use Rattle.limits.specs.Limits.{routes, none}
+use Rattle.theory.specs.Parts.{run}
+use Rattle.theory.specs.Pairing.{pairs, sessions}
+use Rattle.theory.specs.Search.Searched.{Outcome, found, stuck, searchedIn, improvedIn}
+use Rattle.words.specs.Words.{word, bytesTo}
+use Rattle.rows.specs.Sheet.{order, graphOf}
+use Rattle.witness.specs.Given.{mateOf}
+use Rattle.witness.specs.Verdict.{refuses, improveVerdict}
+
+-- the partners that the bytes hold, as the table of a search: past the last, none
+unfoldable pub partnersOf : List ℕ → List ℕ
+partnersOf pairing = map (word pairing) (run 0 routes)
+
+-- the partners after at most b searches
+unfoldable pub improved : List ℕ → List ℕ → ℕ → List ℕ
+improved s pairing b = improvedIn routes (graphOf s) (partnersOf pairing) b
+
+-- the last search, which is always made
+unfoldable pub last : List ℕ → List ℕ → ℕ → Outcome
+last s pairing b = searchedIn routes (graphOf s) (improved s pairing b)
+
+-- 1 where it finds nothing
+abbrev pub finishedBy : Outcome → ℕ
+finishedBy (found q) = 0
+finishedBy (stuck a) = 1
+
+-- its witness where it finds nothing, else what was lent
+abbrev pub witnessBy : Outcome → List ℕ → List ℕ
+witnessBy (found q) witness = witness
+witnessBy (stuck a) witness = a
+
+-- the size of a pairing, read from its bytes
+unfoldable pub sizeOf : List ℕ → List ℕ → ℕ
+sizeOf s pairing = pairs (graphOf s) (mateOf pairing)
+
+-- the sessions that it leaves
+unfoldable pub sessionsOf : List ℕ → List ℕ → ℕ
+sessionsOf s pairing = sessions (graphOf s) (mateOf pairing)
+
+-- x, or y where the call is refused
+abbrev pub orRefused : {A : Type 0} → List ℕ → List ℕ → List ℕ → A → A → A
+orRefused s pairing witness x y = cond (refuses (improveVerdict s pairing witness)) y x
+
+-- the bytes of the pairing after a call, and those of the witness
+unfoldable pub pairingAfter : List ℕ → List ℕ → List ℕ → ℕ → List ℕ
+pairingAfter s pairing witness b = orRefused s pairing witness (bytesTo (λ v. getD (improved s pairing b) v none) (order s)) pairing
+
+unfoldable pub witnessAfter : List ℕ → List ℕ → List ℕ → ℕ → List ℕ
+witnessAfter s pairing witness b = orRefused s pairing witness (witnessBy (last s pairing b) witness) witness
+
+-- the four numbers of the answer
+unfoldable pub addedOf : List ℕ → List ℕ → List ℕ → ℕ → ℕ
+addedOf s pairing witness b = orRefused s pairing witness (sizeOf s (pairingAfter s pairing witness b) - sizeOf s pairing) 0
+
+unfoldable pub sizeAfter : List ℕ → List ℕ → List ℕ → ℕ → ℕ
+sizeAfter s pairing witness b = orRefused s pairing witness (sizeOf s (pairingAfter s pairing witness b)) 0
+
+unfoldable pub finishedOf : List ℕ → List ℕ → List ℕ → ℕ → ℕ
+finishedOf s pairing witness b = orRefused s pairing witness (finishedBy (last s pairing b)) 0
+
+unfoldable pub sessionsAfter : List ℕ → List ℕ → List ℕ → ℕ → ℕ
+sessionsAfter s pairing witness b = orRefused s pairing witness (sessionsOf s (pairingAfter s pairing witness b)) 0

@@ -1,0 +1,92 @@
+// At most so many pairs more, from the pairing that is lent. The work is done in local tables: the lent bytes are read
+// once, and written in one last step. A refusal leaves them alone.
+use crate::lent::load;
+use crate::lent::pairs_of;
+use crate::lent::save;
+use crate::lent::save_marks;
+use limits::NONE;
+use limits::ROUTES;
+use rows::order;
+use search::searched;
+use witness::Verdict;
+use witness::improve_verdict;
+use witness::refuses;
+ghost use mathlib.Core.Path.{_≡_};
+ghost use lib.ListN.{getD};
+ghost use Rattle.limits.specs.Limits.{routes, none};
+ghost use Rattle.words.specs.Words.{bytesTo};
+ghost use Rattle.rows.specs.Sheet.{order, graphOf};
+ghost use Rattle.witness.specs.Promise.{Begins};
+ghost use Rattle.improve.specs.Choice.{improved, last, finishedBy, witnessBy};
+ghost use Rattle.improve.specs.Climb.{Climbs};
+ghost use Rattle.improve.specs.Promise.{Improve};
+
+mod lent;
+
+// The answer of `improve`.
+pub struct Improved {
+    pub verdict: Verdict,
+    pub added: u32,
+    pub size: u32,
+    pub finished: u32,
+    pub sessions: u32,
+}
+
+// At most `budget` searches, and a last one on a copy of the partners: whether that finds nothing. Then the labels are
+// those of the last search.
+fn climb(s: &[u8], p: &mut [u32; ROUTES], label: &mut [u32; ROUTES], budget: u32) -> bool
+    ensures { λ r. ⌜ Climbs routes (graphOf (now (s .entry))) (now (p .entry)) (now (p .exit)) (now (label .exit)) budget r ⌝ }
+{
+    let mut k = 0;
+    while k < budget {
+        if !searched(s, p, label) {
+            return true;
+        }
+        k += 1;
+    }
+    let mut copy = *p;
+    !searched(s, &mut copy, label)
+}
+
+// The work, from bytes that have passed the checks: 1 where no larger pairing exists.
+fn work(s: &[u8], pairing: &mut [u8], witness: &mut [u8], budget: u32) -> u32
+    requires { ⌜ Begins (now s) (now pairing) (now witness) ⌝ }
+    ensures { λ r. ⌜ (now (pairing .exit) ≡ bytesTo (λ v. getD (improved (now (s .entry)) (now (pairing .entry)) budget) v none) (order (now (s .entry)))) × (now (witness .exit) ≡ witnessBy (last (now (s .entry)) (now (pairing .entry)) budget) (now (witness .entry))) × (r ≡ finishedBy (last (now (s .entry)) (now (pairing .entry)) budget)) ⌝ }
+{
+    let n = order(s);
+    let mut p = load(pairing);
+    let mut label = [NONE; ROUTES];
+    let finished = climb(s, &mut p, &mut label, budget);
+    save(n, &p, pairing);
+    if finished {
+        save_marks(n, &label, witness);
+        return 1;
+    }
+    0
+}
+
+// At most `budget` pairs more.
+pub fn improve(s: &[u8], pairing: &mut [u8], witness: &mut [u8], budget: u32) -> Improved
+    ensures { λ r. ⌜ Improve (now (s .entry)) (now (pairing .entry)) (now (pairing .exit)) (now (witness .entry)) (now (witness .exit)) budget (r .verdict) (r .added) (r .size) (r .finished) (r .sessions) ⌝ }
+{
+    let verdict = improve_verdict(s, pairing, witness);
+    if refuses(verdict) {
+        return Improved {
+            verdict,
+            added: 0,
+            size: 0,
+            finished: 0,
+            sessions: 0,
+        };
+    }
+    let before = pairs_of(s, pairing);
+    let finished = work(s, pairing, witness, budget);
+    let size = pairs_of(s, pairing);
+    Improved {
+        verdict,
+        added: size - before,
+        size,
+        finished,
+        sessions: order(s) - size,
+    }
+}
