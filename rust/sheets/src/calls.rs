@@ -3,14 +3,21 @@
 //! them. Checks are made one after the other, and parts are found by walking from route to route.
 use crate::plain::{self, Reply, LIMIT, NONE};
 
+/// The checks of `wisharek_improve`, 1 to 10: the rows and the partners that it starts from. Which of the largest
+/// pairings it leaves is open, so there is no plain reading of the rest.
+pub fn start(sheet: &[u8], pairing: &[u8], witness: &[u8]) -> Result<(Vec<Vec<u32>>, Vec<u32>), Reply> {
+    let rows = accepted(sheet)?;
+    length(8, pairing, 4 * rows.len())?;
+    length(9, witness, rows.len())?;
+    let partners = plain::numbers(pairing);
+    paired(&rows, &partners)?;
+    Ok((rows, partners))
+}
+
 /// `wisharek_check`.
 pub fn check(sheet: &[u8], pairing: &[u8], witness: &[u8], answer: &mut [u8]) -> u32 {
     answered(answer, 3, || {
-        let rows = accepted(sheet)?;
-        length(8, pairing, 4 * rows.len())?;
-        length(9, witness, rows.len())?;
-        let partners = plain::numbers(pairing);
-        paired(&rows, &partners)?;
+        let (rows, partners) = start(sheet, pairing, witness)?;
         marked(witness)?;
         let unpaired = partners.iter().filter(|&&partner| partner == NONE).count();
         if unpaired as i64 != left(&rows, witness).surplus() {
@@ -80,7 +87,7 @@ fn length(number: u32, buffer: &[u8], bytes: usize) -> Result<(), Reply> {
 
 /// 10: the lowest route whose partner is neither none nor a route, or is the route itself, or not a neighbour, or does
 /// not name the route back.
-fn paired(rows: &[Vec<u32>], partners: &[u32]) -> Result<(), Reply> {
+pub fn paired(rows: &[Vec<u32>], partners: &[u32]) -> Result<(), Reply> {
     for (route, &partner) in partners.iter().enumerate() {
         if partner == NONE {
             continue;

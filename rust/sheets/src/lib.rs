@@ -1,11 +1,13 @@
 //! Sheets from Rust, and what the tests of the proved code need: `write` makes a sheet from rows, `plain` reads one as
 //! the format's description has it and with no regard for speed, and `calls` does the same for the calls of the
-//! boundary. `layouts` and `random` make rows, sound and damaged ones; `bad_input` is the list of sheets that the program
-//! `bad_input` hands to the proved reader; `declarations` reads signatures, and `clock` holds bars on time.
+//! boundary. `largest` counts the pairs of a largest pairing. `layouts` and `random` make rows, sound and damaged ones;
+//! `bad_input` is the list of sheets that the program `bad_input` hands to the proved reader; `declarations` reads
+//! signatures, and `clock` holds bars on time.
 pub mod bad_input;
 pub mod calls;
 pub mod clock;
 pub mod declarations;
+pub mod largest;
 pub mod layouts;
 pub mod plain;
 pub mod random;

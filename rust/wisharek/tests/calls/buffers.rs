@@ -7,7 +7,7 @@ fn sound() -> Buffers {
 }
 
 /// The claw in all its buffers, with one thing wrong or nothing.
-fn good_and_bad() -> Vec<(&'static str, Buffers)> {
+pub fn good_and_bad() -> Vec<(&'static str, Buffers)> {
     let lent = |change: fn(&mut Buffers)| {
         let mut lent = sound();
         change(&mut lent);

@@ -6,7 +6,7 @@ use wisharek::NONE;
 
 /// The perfect pairing of the ten routes, and the four pairs to start with, which leave 0 and 9.
 const FIVE: [(u32, u32); 5] = [(0, 1), (2, 3), (4, 5), (6, 7), (8, 9)];
-const FOUR: [(u32, u32); 4] = [(1, 2), (3, 4), (5, 6), (7, 8)];
+pub const FOUR: [(u32, u32); 4] = [(1, 2), (3, 4), (5, 6), (7, 8)];
 
 fn surplus_is(what: &str, rows: &[Vec<u32>], set: &[u32], surplus: i64) {
     let made = told(Call::Surplus, &Buffers::of(rows, &[], set));
@@ -159,7 +159,7 @@ fn surplus_is_not_what_the_parts_say() {
 }
 
 /// Every pairing of these edges.
-fn pairings(edges: &[(u32, u32)]) -> Vec<Vec<(u32, u32)>> {
+pub fn pairings(edges: &[(u32, u32)]) -> Vec<Vec<(u32, u32)>> {
     let Some((&(v, w), rest)) = edges.split_first() else { return vec![vec![]] };
     let without = pairings(rest);
     let apart: Vec<(u32, u32)> =

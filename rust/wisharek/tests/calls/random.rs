@@ -6,19 +6,19 @@ use sheets::random::Random;
 use wisharek::NONE;
 
 /// A graph, a pairing of it and a set, all sound.
-struct Layout {
-    rows: Vec<Vec<u32>>,
-    partners: Vec<u32>,
-    marks: Vec<u8>,
+pub struct Layout {
+    pub rows: Vec<Vec<u32>>,
+    pub partners: Vec<u32>,
+    pub marks: Vec<u8>,
 }
 
 impl Layout {
     /// n routes and nothing else.
-    fn new(n: usize) -> Layout {
+    pub fn new(n: usize) -> Layout {
         Layout { rows: vec![vec![]; n], partners: vec![NONE; n], marks: vec![0; n] }
     }
 
-    fn join(&mut self, v: usize, w: usize) {
+    pub fn join(&mut self, v: usize, w: usize) {
         if v != w && !self.rows[v].contains(&(w as u32)) {
             self.rows[v].push(w as u32);
             self.rows[w].push(v as u32);
@@ -29,6 +29,19 @@ impl Layout {
         self.partners[v] = w as u32;
         self.partners[w] = v as u32;
     }
+
+    /// Pairs unpaired routes as they come, each with its first neighbour that is free: all that can be with `kept` 4, and
+    /// fewer with less.
+    pub fn pair_some(&mut self, random: &mut Random, kept: u64) {
+        let mut order: Vec<usize> = (0..self.rows.len()).collect();
+        random.shuffle(&mut order);
+        for v in order {
+            let free = self.rows[v].iter().find(|&&w| self.partners[w as usize] == NONE).copied();
+            if let (Some(w), NONE, true) = (free, self.partners[v], random.below(5) <= kept) {
+                self.pair(v, w as usize);
+            }
+        }
+    }
 }
 
 /// Any graph; some routes paired as they come; a set that is empty, has a few routes, half of them, or all.
@@ -36,15 +49,8 @@ fn any(random: &mut Random, n: usize) -> Layout {
     let parts = 1 + random.below(6 + n as u64);
     let rows = random.rows_of(n, parts);
     let mut layout = Layout { rows, ..Layout::new(n) };
-    let mut order: Vec<usize> = (0..n).collect();
-    random.shuffle(&mut order);
     let kept = random.below(5);
-    for v in order {
-        let free = layout.rows[v].iter().find(|&&w| layout.partners[w as usize] == NONE).copied();
-        if let (Some(w), NONE, true) = (free, layout.partners[v], random.below(5) <= kept) {
-            layout.pair(v, w as usize);
-        }
-    }
+    layout.pair_some(random, kept);
     let (some, of) = [(0, 1), (1, 6), (1, 2), (1, 1)][random.index(4)];
     layout.marks = (0..n).map(|_| (random.below(of) < some).into()).collect();
     layout
@@ -53,7 +59,7 @@ fn any(random: &mut Random, n: usize) -> Layout {
 /// A graph made around a set. Each part that is left without it is a path and some more edges; an even one is paired off
 /// along the path, and of an odd one a route is left over. Each route of the set is paired with the one that is left over
 /// in some odd part, a different part for each, and is joined to any others. So the bound is met.
-fn around_a_set(random: &mut Random, n: usize) -> Layout {
+pub fn around_a_set(random: &mut Random, n: usize) -> Layout {
     let mut layout = Layout::new(n);
     let mut order: Vec<usize> = (0..n).collect();
     random.shuffle(&mut order);
@@ -97,7 +103,7 @@ fn around_a_set(random: &mut Random, n: usize) -> Layout {
 }
 
 /// One thing wrong with the partners, or with their length.
-fn damage_pairing(random: &mut Random, pairing: &mut Vec<u8>) {
+pub fn damage_pairing(random: &mut Random, pairing: &mut Vec<u8>) {
     let n = pairing.len() / 4;
     if n == 0 || random.below(6) == 0 {
         return damage_length(random, pairing);
@@ -134,7 +140,7 @@ fn damage_witness(random: &mut Random, witness: &mut Vec<u8>) {
 }
 
 /// Some bytes more or fewer, or none left.
-fn damage_length(random: &mut Random, buffer: &mut Vec<u8>) {
+pub fn damage_length(random: &mut Random, buffer: &mut Vec<u8>) {
     let length = match random.below(6) {
         0 => 0,
         1 => random.index(buffer.len() + 1),

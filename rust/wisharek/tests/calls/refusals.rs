@@ -6,7 +6,7 @@ use sheets::{bytes, write};
 use wisharek::NONE;
 
 /// Number, A and B.
-type Reply = (u64, u64, u64);
+pub type Reply = (u64, u64, u64);
 
 /// A refusal that is due, and what sets right the thing refused.
 type Turn = (Reply, fn(&mut Buffers));
@@ -30,7 +30,7 @@ fn due(call: Call, lent: &Buffers, reply: Reply) {
 }
 
 /// Sheets that are refused, in the order of the checks.
-fn bad_sheets() -> Vec<(Vec<u8>, Reply)> {
+pub fn bad_sheets() -> Vec<(Vec<u8>, Reply)> {
     let joined = write(&[vec![1], vec![0]]);
     let longer = [joined.clone(), vec![0; 4]].concat();
     vec![
@@ -112,11 +112,11 @@ fn parts_of_a_wrong_length_are_not_refused() {
     }
 }
 
-#[test]
-fn bad_partner_is_not_refused() {
+/// Partners for the claw of which one is refused: what is wrong, the partners, and A and B.
+pub fn bad_partners() -> Vec<(&'static str, [u32; 4], (u64, u64))> {
     let none = NONE;
     let wide = 1 | 1 << 16;
-    let cases: [(&str, [u32; 4], (u64, u64)); 11] = [
+    vec![
         ("the first number that is no route", [none, 4, none, none], (1, 4)),
         ("the number before none", [none - 1, none, none, none], (0, u64::from(none) - 1)),
         ("more than 16 bits", [wide, 0, none, none], (0, wide.into())),
@@ -128,8 +128,12 @@ fn bad_partner_is_not_refused() {
         ("names a route that has no partner", [none, 0, none, none], (1, 0)),
         ("is named by nobody it names", [3, 0, none, none], (0, 3)),
         ("two of them, the lowest", [none, none, 2, 3], (2, 2)),
-    ];
-    for (what, partners, (a, b)) in cases {
+    ]
+}
+
+#[test]
+fn bad_partner_is_not_refused() {
+    for (what, partners, (a, b)) in bad_partners() {
         println!("{what}");
         due(Call::Check, &with_partners(&partners), (10, a, b));
     }

@@ -4,7 +4,7 @@ use sheets::{calls, plain};
 use wisharek::{Parts, Refusal, NONE};
 
 #[path = "../../src/raw.rs"]
-mod raw;
+pub mod raw;
 
 /// What the buffers that are only written hold before a call, so that a byte that is not written shows.
 const STALE: u8 = 0xa7;
@@ -136,10 +136,10 @@ impl Guarded {
 }
 
 /// All five buffers between guards.
-struct AllGuarded([Guarded; 5]);
+pub struct AllGuarded([Guarded; 5]);
 
 impl AllGuarded {
-    fn new(lent: &Buffers, shift: usize) -> AllGuarded {
+    pub fn new(lent: &Buffers, shift: usize) -> AllGuarded {
         let Buffers { sheet, pairing, witness, parts, answer } = lent;
         let mut shift = shift;
         AllGuarded([sheet, pairing, witness, parts, answer].map(|bytes| {
@@ -148,11 +148,11 @@ impl AllGuarded {
         }))
     }
 
-    fn lend(&mut self) -> [&mut [u8]; 5] {
+    pub fn lend(&mut self) -> [&mut [u8]; 5] {
         self.0.each_mut().map(Guarded::lend)
     }
 
-    fn back(self) -> Buffers {
+    pub fn back(self) -> Buffers {
         let [sheet, pairing, witness, parts, answer] = self.0;
         Buffers {
             sheet: sheet.back("sheet"),
@@ -185,17 +185,26 @@ fn wrapped(call: Call, lent: &Buffers, shift: usize) -> Made {
         Call::Surplus => wisharek::surplus(sheet, witness).map(|surplus| vec![surplus as u64]),
         Call::Parts => wisharek::parts(sheet, witness, parts).map(|Parts { odd, set }| vec![odd, set]),
     };
-    let numbers = match after {
+    let numbers = numbered(call.numbers(), after);
+    answer.copy_from_slice(&long_bytes(&numbers));
+    Made { number: numbers[0] as u32, left: guarded.back() }
+}
+
+/// What the wrapper answers, as so many numbers of an answer: zeros after B where it is refused.
+pub fn numbered(numbers: usize, answer: Result<Vec<u64>, Refusal>) -> Vec<u64> {
+    match answer {
         Ok(after) => [vec![0, 0, 0], after].concat(),
         Err(Refusal { number, a, b }) => {
-            let mut numbers = vec![number.into(), a, b];
-            numbers.resize(call.numbers(), 0);
-            numbers
+            let mut told = vec![number.into(), a, b];
+            told.resize(numbers, 0);
+            told
         }
-    };
-    let bytes: Vec<u8> = numbers.iter().flat_map(|x| x.to_le_bytes()).collect();
-    answer.copy_from_slice(&bytes);
-    Made { number: numbers[0] as u32, left: guarded.back() }
+    }
+}
+
+/// The numbers of an answer, eight bytes each, lowest byte first.
+pub fn long_bytes(numbers: &[u64]) -> Vec<u8> {
+    numbers.iter().flat_map(|x| x.to_le_bytes()).collect()
 }
 
 /// By the plain reading.
@@ -211,7 +220,7 @@ fn plainly(call: Call, lent: &Buffers) -> Made {
 }
 
 /// Two ways of making a call, compared. The difference comes first in the message, the buffers last: they may be long.
-fn same(made: &Made, plain: &Made, what: &str, lent: &Buffers) {
+pub fn same(made: &Made, plain: &Made, what: &str, lent: &Buffers) {
     if made == plain {
         return;
     }
