@@ -172,7 +172,7 @@ fn flowers(random: &mut Random, n: usize) -> Layout {
     let mut begin = 0;
     while begin < n {
         let end = begin + (5 + random.index(n / 2 + 1)).min(n - begin);
-        let tip = begin + random.index((end - begin + 1) / 2);
+        let tip = begin + random.index((end - begin).div_ceil(2));
         (begin..tip).for_each(|v| layout.join(v, v + 1));
         grow_rings(random, &mut layout, tip, end);
         begin = end;
@@ -188,12 +188,8 @@ fn triangles_on_hubs(random: &mut Random, n: usize) -> Layout {
     let mut layout = Layout::new(n);
     let hubs = random.index(n / 3 + 1);
     for v in hubs..n {
-        if (v - hubs) % 3 > 0 {
-            layout.join(v, v - 1);
-        }
-        if (v - hubs) % 3 == 2 {
-            layout.join(v, v - 2);
-        }
+        // the routes of its triangle that come before it
+        (v - (v - hubs) % 3..v).for_each(|w| layout.join(v, w));
         if hubs > 0 && random.below(2) == 0 {
             layout.join(v, random.index(hubs));
         }

@@ -57,6 +57,14 @@ fn five_pairs_of_ten_routes_are_not_reached() {
 }
 
 #[test]
+fn budget_of_many_bits_is_cut() {
+    for budget in (3..32).map(|k| 1 << k) {
+        improves("ten routes", &ten(), &FOUR, budget, [1, 5, 1, 5]);
+        improves("ten routes", &ten(), &[], budget, [5, 5, 1, 5]);
+    }
+}
+
+#[test]
 fn small_layout_is_paired_otherwise() {
     let all = u32::MAX;
     improves("no routes", &path(0), &[], 0, [0, 0, 1, 0]);

@@ -65,7 +65,7 @@ fn round(random: &mut Random, n: usize) -> (&'static str, Buffers) {
 
 /// A budget cut in two, where there is room for so many pairs.
 fn budgets(random: &mut Random, room: u32) -> (u32, u32) {
-    let whole = match random.below(9) {
+    let whole = match random.below(10) {
         0 => 0,
         1 => 1,
         2 => room,
@@ -73,6 +73,8 @@ fn budgets(random: &mut Random, room: u32) -> (u32, u32) {
         4 => room.saturating_sub(1),
         5 | 6 => random.below(u64::from(room) + 3) as u32,
         7 => random.below(1 << 32) as u32,
+        // nothing would be left of it in fewer bits
+        8 => 1 << (8 + random.below(24)),
         _ => u32::MAX,
     };
     let first = match random.below(5) {
@@ -154,6 +156,7 @@ impl Met {
         self.count("budget: exactly what is missing", room > 0 && budget == room);
         self.count("budget: one more than is missing", room > 0 && budget == room + 1);
         self.count("budget: 4294967295", budget == u64::from(u32::MAX));
+        self.count("budget: 2^8 to 2^31, with pairs to add", room > 0 && budget >= 256 && budget.is_power_of_two());
         self.count("two calls: both add", first > 0 && u64::from(first) < room && second > 0);
         self.count("two calls: the first one finishes", room > 0 && u64::from(first) >= room && second > 0);
         self.count("a route has another partner than before", other_partner(start, made));
@@ -184,7 +187,7 @@ fn odd_part_of_three(made: &Made) -> bool {
 }
 
 /// How often things have to be met at least, about half as often as they are.
-const LEAST: [(&str, u64); 27] = [
+const LEAST: [(&str, u64); 28] = [
     ("calls on more than 14 routes", 5_000),
     ("answer of a wrong length", 1_500),
     ("accepted", 50_000),
@@ -204,6 +207,7 @@ const LEAST: [(&str, u64); 27] = [
     ("budget: exactly what is missing", 3_000),
     ("budget: one more than is missing", 2_000),
     ("budget: 4294967295", 3_000),
+    ("budget: 2^8 to 2^31, with pairs to add", 1_500),
     ("two calls: both add", 1_000),
     ("two calls: the first one finishes", 2_500),
     ("a route has another partner than before", 4_000),
