@@ -1,5 +1,5 @@
-//! How many pairs a largest pairing has, found in two ways. Neither of them looks for a path, so they share nothing with
-//! the search that they are the measure for.
+//! How many pairs a largest pairing has, found in two ways. Neither of them looks for a path, so they share nothing
+//! with the search that they are the measure for.
 use crate::random::Random;
 
 /// The most routes that `by_sets` takes.
@@ -39,9 +39,9 @@ pub fn by_sets(rows: &[Vec<u32>]) -> usize {
 /// By the rank of a matrix with a random x at (v, w) and -x at (w, v) for each edge, and 0 elsewhere (Tutte, Lovász).
 ///
 /// Half of its rank is never more than the pairs of a largest pairing, whatever the numbers are. So a layout of which
-/// this says k has k pairs, and a pairing with fewer is not a largest one: that is certain. Less than the largest is said
-/// with a chance of at most n in 2^61. A test that also asks for a witness of its size rests on no chance: the witness
-/// shows that there are not more pairs, and the rank that there are not fewer.
+/// this says k has k pairs, and a pairing with fewer is not a largest one: that is certain. Less than the largest is
+/// said with a chance of at most n in 2^61. A test that also asks for a witness of its size rests on no chance: the
+/// witness shows that there are not more pairs, and the rank that there are not fewer.
 pub fn by_rank(rows: &[Vec<u32>], random: &mut Random) -> usize {
     let mut matrix = vec![vec![0; rows.len()]; rows.len()];
     for (v, row) in rows.iter().enumerate() {

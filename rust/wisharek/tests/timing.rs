@@ -9,8 +9,8 @@ use wisharek::{check, improve, parts, surplus, Parts, NONE};
 
 const BAR: Duration = Duration::from_secs(1);
 
-/// For the whole way from nothing to a largest pairing. The slowest of the layouts below takes about 20 ms where nothing
-/// else runs.
+/// For the whole way from nothing to a largest pairing. The slowest of the layouts below takes about 20 ms where
+/// nothing else runs.
 const BAR_IMPROVE: Duration = Duration::from_millis(500);
 
 /// 512 routes, 2k and 2k + 1 paired; with the empty set.

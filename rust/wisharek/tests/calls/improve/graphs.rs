@@ -140,9 +140,9 @@ fn odd_parts(random: &mut Random, n: usize) -> Layout {
     layout
 }
 
-/// Grows routes `begin` to `end` - 1 into rings upon rings, from route `begin`. Each ear goes from a route that is there to
-/// another, or back to the same, over an even number of new ones. So the whole is a ring of rings, which a search contracts
-/// one by one. A route that is left over hangs on.
+/// Grows routes `begin` to `end` - 1 into rings upon rings, from route `begin`. Each ear goes from a route that is
+/// there to another, or back to the same, over an even number of new ones. So the whole is a ring of rings, which a
+/// search contracts one by one. A route that is left over hangs on.
 fn grow_rings(random: &mut Random, layout: &mut Layout, begin: usize, end: usize) {
     let mut there = begin + 1;
     while there + 2 <= end {

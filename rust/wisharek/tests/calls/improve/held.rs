@@ -24,7 +24,9 @@ pub enum Known {
 pub struct Start {
     pub rows: Vec<Vec<u32>>,
     pub partners: Vec<u32>,
-    /// The pairs of a largest pairing, by a method that is no search for paths.
+    /// The pairs of a largest pairing, by a method that is no search for paths. Above 14 routes it is too low with a very
+    /// small chance. A call can then be held to it in vain, but none passes that should not: one that is due to be
+    /// finished has to show by its witness that no pairing is larger, and one that is not has fewer pairs than there are.
     pub largest: usize,
 }
 
@@ -54,8 +56,8 @@ impl Known {
         }
     }
 
-    /// What is known of the buffers that a call has left, which it was held to: a refusal stays, and a pairing is written
-    /// over.
+    /// What is known of the buffers that a call has left, which it was held to: a refusal stays, and a pairing is
+    /// written over.
     fn after(&self, made: &Made) -> Known {
         match self {
             Known::Taken(start) => {
@@ -145,8 +147,8 @@ fn one(known: &Known, lent: &Buffers, budget: u32, shift: usize) -> Made {
     made
 }
 
-/// One call with the sum of two budgets, and then two calls, all held to what is known. The two leave what the one leaves,
-/// byte for byte, and have added as many.
+/// One call with the sum of two budgets, and then two calls, all held to what is known. The two leave what the one
+/// leaves, byte for byte, and have added as many.
 pub fn one_and_two(known: &Known, lent: &Buffers, (first, second): (u32, u32), shift: usize) -> Made {
     let whole = one(known, lent, first + second, shift);
     let half = exported(lent, first, shift + 1);

@@ -1,6 +1,6 @@
-//! Random calls of `improve`, the same on every run: sound ones, and ones in which the sheet, the pairing or the length of
-//! a buffer is damaged. Each is made as exported, as wrapped, and in two calls, and held to all that is promised of it.
-//! What was met is counted, and each count has a least number, so that the test cannot become hollow.
+//! Random calls of `improve`, the same on every run: sound ones, and ones in which the sheet, the pairing or the length
+//! of a buffer is damaged. Each is made as exported, as wrapped, and in two calls, and held to all that is promised of
+//! it. What was met is counted, and each count has a least number, so that the test cannot become hollow.
 use super::graphs::{graph, KINDS};
 use super::held::{one_and_two, Known, Start, NUMBERS};
 use crate::random::{damage_length, damage_pairing};
@@ -91,8 +91,8 @@ fn budgets(random: &mut Random, room: u32) -> (u32, u32) {
 struct Met(BTreeMap<String, u64>);
 
 impl Met {
-    fn count(&mut self, what: impl Into<String>, times: bool) {
-        *self.0.entry(what.into()).or_default() += u64::from(times);
+    fn count(&mut self, what: impl Into<String>, met: bool) {
+        *self.0.entry(what.into()).or_default() += u64::from(met);
     }
 
     fn of(&self, what: &str) -> u64 {

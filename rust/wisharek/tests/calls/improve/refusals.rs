@@ -1,5 +1,6 @@
-//! Every refusal of `improve` with its details, and which one is given where several are due; the answer buffer at wrong
-//! lengths, and buffers without a byte. That a refusal leaves pairing and witness as they were is held with each of them.
+//! Every refusal of `improve` with its details, and which one is given where several are due; the answer buffer at
+//! wrong lengths, and buffers without a byte. That a refusal leaves pairing and witness as they were is held with each
+//! of them.
 use super::held::{one_and_two, told, Known, NUMBERS};
 use crate::buffers::good_and_bad;
 use crate::refusals::{bad_partners, bad_sheets, Reply};
