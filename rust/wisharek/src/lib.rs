@@ -53,6 +53,52 @@ pub struct Parts {
     pub set: u64,
 }
 
+/// What a call of [`improve`] has done.
+#[derive(Clone, Copy, Debug, PartialEq, Eq, Hash)]
+pub struct Improved {
+    /// The pairs that were added.
+    pub added: u64,
+    /// The size of the pairing that is left.
+    pub size: u64,
+    /// Whether no pairing is larger. Then the witness shows it.
+    pub finished: bool,
+    /// The test sessions that the pairing left leads to: the routes less the pairs.
+    pub sessions: u64,
+}
+
+/// Adds pairs to the pairing, at most `budget` of them, and as many as there are. Every route that had a partner has
+/// one afterwards, though it may be another. When no pairing is larger, the answer is finished and `witness` is written
+/// over with a set that shows it to [`check`]; until then `witness` stays as it is. A refusal leaves both as they are.
+///
+/// Two calls in a row leave what one call with the sum of their budgets leaves.
+///
+/// Refusals: 1 to 10.
+///
+/// ```
+/// // a path of four, 0 - 1 - 2 - 3, from its middle pair: the one pair more changes both partners
+/// let bytes = |numbers: &[u32]| -> Vec<u8> { numbers.iter().flat_map(|x| x.to_le_bytes()).collect() };
+/// let sheet = bytes(&[4, 0, 1, 3, 5, 6, 1, 0, 2, 1, 3, 2]);
+/// let none = wisharek::NONE;
+/// let mut pairing = bytes(&[none, 2, 1, none]);
+/// let mut witness = [9; 4];
+/// let done = wisharek::improve(&sheet, &mut pairing, &mut witness, 1)?;
+/// assert_eq!((done.added, done.size, done.finished, done.sessions), (1, 2, true, 2));
+/// assert_eq!(pairing, bytes(&[1, 0, 3, 2]));
+/// assert_eq!(wisharek::check(&sheet, &pairing, &witness), Ok(()));
+/// # Ok::<(), wisharek::Refusal>(())
+/// ```
+pub fn improve(sheet: &[u8], pairing: &mut [u8], witness: &mut [u8], budget: u32) -> Result<Improved, Refusal> {
+    let mut answer = Answer::<56>::new();
+    let number = raw::improve(sheet, pairing, witness, budget, &mut answer.bytes);
+    answer.accepted(number)?;
+    Ok(Improved {
+        added: answer.number(3),
+        size: answer.number(4),
+        finished: answer.number(5) == 1,
+        sessions: answer.number(6),
+    })
+}
+
 /// Accepts exactly when the pairing leaves as many routes unpaired as the surplus of the witness's set says. Then no
 /// pairing of the sheet is larger.
 ///

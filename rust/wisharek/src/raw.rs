@@ -7,6 +7,17 @@ compile_error!(
 );
 
 extern "C" {
+    fn wisharek_improve(
+        sheet: *const u8,
+        sheet_len: usize,
+        pairing: *mut u8,
+        pairing_len: usize,
+        witness: *mut u8,
+        witness_len: usize,
+        budget: u32,
+        answer: *mut u8,
+        answer_len: usize,
+    ) -> u32;
     fn wisharek_check(
         sheet: *const u8,
         sheet_len: usize,
@@ -35,6 +46,24 @@ extern "C" {
         answer: *mut u8,
         answer_len: usize,
     ) -> u32;
+}
+
+/// `wisharek_improve`. The answer takes 7 numbers.
+pub fn improve(sheet: &[u8], pairing: &mut [u8], witness: &mut [u8], budget: u32, answer: &mut [u8]) -> u32 {
+    // SAFETY: as for `check`.
+    unsafe {
+        wisharek_improve(
+            sheet.as_ptr(),
+            sheet.len(),
+            pairing.as_mut_ptr(),
+            pairing.len(),
+            witness.as_mut_ptr(),
+            witness.len(),
+            budget,
+            answer.as_mut_ptr(),
+            answer.len(),
+        )
+    }
 }
 
 /// `wisharek_check`. The answer takes 3 numbers.

@@ -20,7 +20,7 @@ fn declarations() -> Vec<String> {
 fn declaration_differs_from_export() {
     let exported = exported(&read("crates/wisharek/src/lib.rt"));
     assert_eq!(declarations(), exported);
-    assert_eq!(exported.len(), 3, "the exported functions: {exported:?}");
+    assert_eq!(exported.len(), 4, "the exported functions: {exported:?}");
 }
 
 #[test]
