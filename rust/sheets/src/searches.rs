@@ -29,6 +29,8 @@ impl Case {
         loop {
             match search(&self.rows, &partners).outcome {
                 Outcome::Found(new) => {
+                    // From anything else than a larger pairing a search might never end.
+                    assert!(is_larger(&new, &partners), "{}: {new:?}", self.name);
                     partners = new;
                     let _ = writeln!(lines, "{}: found\npairs{}", self.name, pairs(&partners));
                 }
@@ -96,6 +98,12 @@ fn nested() -> Vec<Vec<u32>> {
     let ladder = [(0, 1), (0, 2), (1, 2), (1, 3), (2, 4), (3, 4), (3, 5), (4, 6), (5, 6)];
     let path = [(5, 7), (7, 8), (8, 9), (9, 10), (10, 11)];
     layouts::joined(12, &[&ladder[..], &path[..]].concat())
+}
+
+/// Whether these are partners both ways, and two routes more have one.
+fn is_larger(new: &[Option<usize>], old: &[Option<usize>]) -> bool {
+    let mutual = new.iter().enumerate().all(|(v, w)| w.is_none_or(|w| new[w] == Some(v)));
+    mutual && new.iter().flatten().count() == old.iter().flatten().count() + 2
 }
 
 fn pairs(partners: &[Option<usize>]) -> String {
