@@ -1,0 +1,137 @@
+//! How many comparisons of which kind.
+use crate::graphs::{every_graph, every_pairing, general, most_pairs, nothing, rising, some_pairs, two_sides};
+use crate::reading::Read;
+use crate::runs::Beside;
+use crate::{ours, text, Rows};
+use sheets::random::Random;
+use std::time::Instant;
+
+/// How much is compared.
+pub struct Plan {
+    pub seed: u64,
+    /// Random rows for the reader.
+    pub rows: u64,
+    /// Random graphs of up to ten routes, and those of them without an odd cycle. Of larger ones fewer are made, of smaller
+    /// ones more.
+    pub graphs: usize,
+    pub even: usize,
+    /// The most routes of a random graph: each of these in turn.
+    pub most: &'static [usize],
+    /// All graphs of up to so many routes from every start, and of up to so many from nothing.
+    pub every_start: usize,
+    pub from_nothing: usize,
+}
+
+impl Plan {
+    /// For every run of the tests: about a minute.
+    pub fn gate(seed: u64) -> Plan {
+        let most = &[6, 7, 8, 10, 14, 20, 30, 60];
+        Plan { seed, rows: 500_000, graphs: 12_000, even: 10_000, most, every_start: 5, from_nothing: 6 }
+    }
+
+    /// At length: less than an hour.
+    pub fn long(seed: u64) -> Plan {
+        let most = &[6, 7, 8, 9, 10, 12, 14, 17, 20, 30, 45, 60, 100];
+        Plan { seed, rows: 5_000_000, graphs: 120_000, even: 60_000, most, every_start: 6, from_nothing: 7 }
+    }
+
+    /// All of it, to the first difference.
+    pub fn run(&self) -> Result<(), String> {
+        self.reading()?;
+        self.all_from_every_start()?;
+        self.all_from_nothing()?;
+        self.even()?;
+        self.general()
+    }
+
+    fn reading(&self) -> Result<(), String> {
+        let begun = Instant::now();
+        let (mut random, mut read) = (Random::new(self.seed), Read::default());
+        read.small()?;
+        let small: u64 = read.0.iter().sum();
+        for _ in 0..self.rows {
+            read.random(&mut random)?;
+        }
+        println!("rows accepted or refused: {small} small ones, {} random ones from seed {}", self.rows, self.seed);
+        println!("  by number 0 to 7: {:?}", read.0);
+        println!("  no difference, {:.1?}", begun.elapsed());
+        Ok(())
+    }
+
+    fn all_from_every_start(&self) -> Result<(), String> {
+        let what = format!("all graphs of up to {} routes from every start", self.every_start);
+        beside(&what, |beside| {
+            let mut graphs = (0..=self.every_start).flat_map(every_graph);
+            graphs.try_for_each(|rows| every_pairing(&rows, &mut |start| beside.compare(&rows, start)))
+        })
+    }
+
+    fn all_from_nothing(&self) -> Result<(), String> {
+        let what = format!("all graphs of up to {} routes from nothing", self.from_nothing);
+        beside(&what, |beside| {
+            let mut graphs = (0..=self.from_nothing).flat_map(every_graph);
+            graphs.try_for_each(|rows| {
+                tried(&rows)?;
+                beside.compare(&rows, &nothing(&rows))
+            })
+        })
+    }
+
+    fn even(&self) -> Result<(), String> {
+        let what = format!("no odd cycle, up to {:?} routes, seed {}", self.most, self.seed);
+        let mut random = Random::new(self.seed);
+        beside(&what, |beside| {
+            for most in sizes(self.even, self.most) {
+                let rows = two_sides(&mut random, most);
+                let start = some_pairs(&mut random, &rows);
+                beside.compare(&rows, &start)?;
+                beside.compare(&rows, &nothing(&rows))?;
+            }
+            Ok(())
+        })
+    }
+
+    fn general(&self) -> Result<(), String> {
+        let what = format!("general graphs, up to {:?} routes, seed {}", self.most, self.seed);
+        let mut random = Random::new(self.seed);
+        beside(&what, |beside| {
+            for most in sizes(self.graphs, self.most) {
+                let mut rows = general(&mut random, most);
+                if random.below(2) == 0 {
+                    rows = rising(rows);
+                }
+                let start = some_pairs(&mut random, &rows);
+                match random.below(4) {
+                    0 => beside.compare_twice(&rows, &start)?,
+                    _ => beside.compare(&rows, &start)?,
+                }
+                beside.compare(&rows, &nothing(&rows))?;
+            }
+            Ok(())
+        })
+    }
+}
+
+/// Each of these numbers of routes, as often as its graphs are to be made.
+fn sizes(graphs: usize, most: &[usize]) -> impl Iterator<Item = usize> + '_ {
+    most.iter().flat_map(move |&most| std::iter::repeat_n(most, 10 * graphs / most))
+}
+
+/// A comparison, and what it counted.
+fn beside(what: &str, compare: impl FnOnce(&mut Beside) -> Result<(), String>) -> Result<(), String> {
+    let begun = Instant::now();
+    let mut beside = Beside::default();
+    compare(&mut beside)?;
+    print!("{what}: {}", beside.seen);
+    println!("  no difference, {:.1?}", begun.elapsed());
+    Ok(())
+}
+
+/// The most pairs by trying all, beside those that improvement reaches from nothing.
+fn tried(rows: &Rows) -> Result<(), String> {
+    let (most, ours) = (most_pairs(rows), ours::finished(rows, &nothing(rows))?.len());
+    if most != ours {
+        return Err(format!("by trying {most} pairs, by improvement {ours}\nrows {}", text::of_rows(rows)));
+    }
+    Ok(())
+}
