@@ -9,12 +9,11 @@
 mod original;
 #[path = "../../sheets/tests/probe/mod.rs"]
 mod probe;
-mod yards;
 
+use sheets::yards::{self, Yard};
 use std::hint::black_box;
 use std::process::ExitCode;
 use std::time::{Duration, Instant};
-use yards::Yard;
 
 const RUNS: usize = 41;
 

@@ -1,6 +1,6 @@
 //! gamma on a sheet, in a process of its own, which is ended when it is past the limit: a run that never ends cannot be
 //! ended in a thread, and one that goes too deep takes the process with it.
-use crate::yards::Yard;
+use sheets::yards::Yard;
 use std::env;
 use std::process::{Command, Stdio};
 use std::thread::sleep;

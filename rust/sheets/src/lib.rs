@@ -2,8 +2,8 @@
 //! the format's description has it and with no regard for speed, and `calls` does the same for the calls of the
 //! boundary. `largest` counts the pairs of a largest pairing. `layouts` and `random` make rows, sound and damaged ones;
 //! `bad_input` is the list of sheets that the program `bad_input` hands to the proved reader; `search` is a plain model of
-//! one search, and `searches` the layouts of the program of that name; `declarations` reads signatures, and `clock` holds
-//! bars on time.
+//! one search, and `searches` the layouts of the program of that name; `yards` are the benchmark
+//! sheets; `declarations` reads signatures, and `clock` holds bars on time.
 pub mod bad_input;
 pub mod calls;
 pub mod clock;
@@ -14,6 +14,7 @@ pub mod plain;
 pub mod random;
 pub mod search;
 pub mod searches;
+pub mod yards;
 
 /// The sheet of these rows: their number, the entry number at which each begins, the entry total, then the entries.
 /// The rows are written as they stand, right or wrong.

@@ -1,4 +1,4 @@
-//! Sheets of as many routes as there may be, each hard on the search in one way.
+//! The benchmark sheets, and others of as many routes as there may be, each hard on the search in one way.
 use sheets::layouts::joined;
 use sheets::random::Random;
 
@@ -16,33 +16,30 @@ pub struct Yard {
 
 /// Every sheet, to start from nothing; and the ladder, to start from its rungs.
 pub fn all() -> Vec<Yard> {
+    let benchmark = sheets::yards::all().into_iter().map(|yard| (yard.name.to_string(), yard.rows));
     let mut yards: Vec<Yard> =
-        from_nothing().into_iter().map(|(name, rows)| Yard { name, rows, start: vec![] }).collect();
+        benchmark.chain(others()).map(|(name, rows)| Yard { name, rows, start: vec![] }).collect();
     let rungs = (1..MOST - 2).step_by(2).map(|v| (v, v + 1)).collect();
     yards.push(Yard { name: "ladder on a triangle, from its rungs".to_string(), rows: ladder(), start: rungs });
     yards
 }
 
-fn from_nothing() -> Vec<(String, Rows)> {
+fn others() -> Vec<(String, Rows)> {
     let mut random = Random::new(20);
     let mut yards: Vec<(String, Rows)> = vec![];
-    for (name, parts) in [("very sparse", 400), ("sparse", 170), ("in between", 20), ("dense", 2)] {
+    for (name, parts) in [("very sparse", 400), ("sparse", 170), ("in between", 20)] {
         for k in 1..=3 {
             yards.push((format!("random, {name}, {k}"), random.rows_of(MOST as usize, parts)));
         }
     }
     let named = [
-        ("odd clusters", clusters(&[3, 5, 7, 9], 0, &mut random)),
         ("odd clusters, joined", clusters(&[3, 5, 7, 9], 64, &mut random)),
         ("large odd clusters, joined", clusters(&[31, 63], 32, &mut random)),
         ("triangles on low hubs", hubs(3, 40, true)),
         ("triangles on high hubs", hubs(3, 40, false)),
         ("fives on low hubs", hubs(5, 20, true)),
         ("fives on high hubs", hubs(5, 20, false)),
-        ("bipartite, even", bipartite(256, 4, &mut random)),
         ("bipartite, uneven", bipartite(200, 4, &mut random)),
-        ("all of 257", sheets::all_joined(257)),
-        ("all of 512", sheets::all_joined(MOST)),
         ("path", sheets::layouts::path(MOST)),
         ("ring of 511 and one route", ring()),
         ("ladder on a triangle", ladder()),

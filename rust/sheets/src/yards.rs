@@ -1,5 +1,5 @@
-//! The sheets that are timed, as rows.
-use sheets::random::Random;
+//! The benchmark sheets, as rows: those that are timed, and on which the steps of every search are counted.
+use crate::random::Random;
 
 const SEED: u64 = 512;
 const ROUTES: usize = 512;
@@ -23,8 +23,8 @@ pub fn all() -> Vec<Yard> {
         yard("triangles, hubs with low ids", &|random| hubs(random, |route| (ROUTES - 1 - route) as u32)),
         yard("two sides, sparse", &|random| two_sides(random, 128)),
         yard("two sides, every second edge", &|random| two_sides(random, 2)),
-        yard("all of 257", &|_| sheets::all_joined(257)),
-        yard("all of 512", &|_| sheets::all_joined(512)),
+        yard("all of 257", &|_| crate::all_joined(257)),
+        yard("all of 512", &|_| crate::all_joined(512)),
     ]
 }
 
