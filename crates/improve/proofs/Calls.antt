@@ -1,7 +1,7 @@
 -- A call, refused or not, over plain variables; and two calls in a row. Assumes nothing.
-use Prim.Native.Nat.{ℕ, _+_, _-_, _≤_, min}
-use mathlib.Core.Path.{_≡_, refl, sym, ap, _∙_, subst}
-use mathlib.Core.Bool.{Bool, true, false, cond, _&&_}
+use Prim.Native.Nat.{ℕ, _-_, _≤_}
+use mathlib.Core.Path.{_≡_, refl, sym, ap, _∙_}
+use mathlib.Core.Bool.{Bool, true, false, _&&_}
 use mathlib.Core.List.{List}
 use native.Mathlib.Omega.{arith}
 use lib.Dec.{ltb}
@@ -15,10 +15,9 @@ use Rattle.witness.specs.Given.{mateOf}
 use Rattle.witness.specs.Verdict.{refuses, improveVerdict}
 use Rattle.witness.specs.Promise.{Begins}
 use Rattle.witness.specs.declared.Verdict.{Verdict}
-use Rattle.witness.specs.declared.Verdict.the-variants.{Accepted}
 use Rattle.witness.proofs.Checker.{passed-improve}
 use Rattle.improve.specs.Choice.{improved, last, finishedBy, witnessBy, sizeOf, sessionsOf, pairingAfter, witnessAfter, addedOf, sizeAfter, finishedOf, sessionsAfter}
-use Rattle.improve.specs.Promise.{Means, Chosen, Improve}
+use Rattle.improve.specs.Promise.{Chosen, Improve}
 use Rattle.improve.proofs.Meaning.{means, grows}
 
 -- a pairing has no more pairs than there are routes

@@ -1,9 +1,8 @@
 -- The choice means what the promise says: from bytes that pass the checks, what improve leaves is the customer's third demand. Assumes nothing.
-use Prim.Native.Nat.{ℕ, zero, suc, _+_, _*_, _-_, _/_, _≤_, _<_, min}
+use Prim.Native.Nat.{ℕ, _+_, _-_, _/_, _≤_, _<_, min}
 use mathlib.Core.Path.{_≡_, refl, sym, ap, _∙_, subst, fun-ext}
 use mathlib.Core.Logic.{_↔_, _⊎_, inl, inr, ⊎-elim}
-use mathlib.Core.Bool.{Bool, true, false, cond}
-use mathlib.Core.List.{List, map}
+use mathlib.Core.List.{List}
 use native.Mathlib.Omega.{arith}
 use lib.Dec.{ltb}
 use lib.IntN.{pos}
@@ -12,22 +11,19 @@ use lib.Seq.{ext-getD}
 use borrow.Author.Tests.{ltb-true, ltb-false}
 use Rattle.limits.specs.Limits.{routes, none}
 use Rattle.theory.specs.Graph.{Graph, Simple}
-use Rattle.theory.specs.Surplus.{surplus}
-use Rattle.theory.specs.Pairing.{Pairing, pairs, unpaired, sessions}
+use Rattle.theory.specs.Pairing.{Pairing, pairs, unpaired}
 use Rattle.theory.specs.Largest.{Largest}
-use Rattle.theory.specs.Search.Searched.{Outcome, found, stuck, searchedIn, improvedIn}
+use Rattle.theory.specs.Search.Searched.{Outcome, found, stuck}
 use Rattle.theory.specs.Search.Promise as search
 use Rattle.theory.proofs.Count.{cases}
 use Rattle.theory.proofs.Search.Cells.{getD-any}
 use Rattle.theory.proofs.Search.Improved.{improved-tidy, improved-length, largest-some, promise}
-use Rattle.words.specs.Words.{word, bytesTo}
+use Rattle.words.specs.Words.{bytesTo}
 use Rattle.words.proofs.Bytes.{word-past, bytesTo-length, bytesTo-word}
 use Rattle.rows.specs.Sheet.{order, graphOf}
 use Rattle.sheet.proofs.Read.{simple, order-most}
-use Rattle.witness.specs.Given.{mateOf, setOf}
-use Rattle.witness.specs.Verdict.{checkOf}
-use Rattle.witness.specs.Promise.{PairingBytes, SetBytes, Begins, Shown}
-use Rattle.witness.specs.declared.Verdict.the-variants.{Accepted}
+use Rattle.witness.specs.Given.{mateOf}
+use Rattle.witness.specs.Promise.{PairingBytes, Begins, Shown}
 use Rattle.witness.proofs.Checker.{shown-accepted, shown-maximum}
 use Rattle.improve.specs.Choice.{partnersOf, improved, last, finishedBy, witnessBy, sizeOf, sessionsOf}
 use Rattle.improve.specs.Promise.{Means}

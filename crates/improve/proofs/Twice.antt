@@ -1,7 +1,7 @@
 -- Two calls in a row leave what one call with the sum of their budgets leaves. Assumes nothing.
-use Prim.Native.Nat.{ℕ, _+_, _-_, _≤_, min}
+use Prim.Native.Nat.{ℕ, _+_, _-_, _≤_}
 use mathlib.Core.Path.{_≡_, refl, sym, ap, _∙_, subst}
-use mathlib.Core.Bool.{Bool, true, false, cond}
+use mathlib.Core.Bool.{true, false}
 use mathlib.Core.List.{List}
 use native.Mathlib.Omega.{arith}
 use lib.ListN.{length, getD}
@@ -14,7 +14,6 @@ use Rattle.rows.specs.Sheet.{order, graphOf}
 use Rattle.sheet.proofs.Read.{order-most}
 use Rattle.witness.specs.Verdict.{refuses, improveVerdict}
 use Rattle.witness.specs.Promise.{PairingBytes, Begins}
-use Rattle.witness.specs.declared.Verdict.the-variants.{Accepted}
 use Rattle.witness.proofs.Checker.{passed-improve, begins-accepted}
 use Rattle.improve.specs.Choice.{partnersOf, improved, last, finishedBy, witnessBy, sizeOf, pairingAfter, witnessAfter, addedOf, sizeAfter, finishedOf, sessionsAfter}
 use Rattle.improve.proofs.Meaning.{table-bytes, left-tidy, left-length, witness-length, means, grows}

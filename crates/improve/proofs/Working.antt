@@ -1,10 +1,9 @@
 -- The work of a call, over plain variables: what is loaded, searched and saved is the choice. Assumes nothing.
-use Prim.Native.Nat.{ℕ, _*_, _≤_}
-use mathlib.Core.Path.{_≡_, refl, sym, ap, _∙_}
+use Prim.Native.Nat.{ℕ}
+use mathlib.Core.Path.{_≡_, sym, ap, _∙_}
 use mathlib.Core.Bool.{Bool, true, false}
 use mathlib.Core.List.{List, map}
-use native.Mathlib.Omega.{arith}
-use lib.ListN.{length, getD, take}
+use lib.ListN.{getD, take}
 use Rattle.limits.specs.Limits.{routes, none}
 use Rattle.theory.specs.Parts.{run}
 use Rattle.theory.specs.Search.Tables.{cell}

@@ -1,13 +1,12 @@
 -- The lent bytes as tables: what is read from them, and what is written. Laws over plain variables, for the loops of `lent.rt`. Assumes nothing.
-use Prim.Native.Nat.{ℕ, zero, suc, _+_, _*_, _-_, _/_, _≤_, _<_}
-use mathlib.Core.Path.{_≡_, refl, sym, ap, _∙_, fun-ext}
-use mathlib.Core.Bool.{Bool, true, false, cond, _&&_}
+use Prim.Native.Nat.{ℕ, _≤_, _<_}
+use mathlib.Core.Path.{_≡_, sym, ap, _∙_, fun-ext}
 use mathlib.Core.List.{List, map}
 use native.Mathlib.Omega.{arith}
-use lib.Dec.{ltb, eqb}
-use lib.ListN.{length, getD, take, length-map, length-take, List·getD-eq-default}
+use lib.Dec.{ltb}
+use lib.ListN.{length, getD, take, length-map, List·getD-eq-default}
 use lib.Seq.{getD-take, ext-getD}
-use borrow.Author.Tests.{lt-ltb, le-ltb, ltb-true, ltb-false}
+use borrow.Author.Tests.{lt-ltb, ltb-true, ltb-false}
 use Rattle.limits.specs.Limits.{routes, none}
 use Rattle.theory.specs.Parts.{run}
 use Rattle.theory.specs.Search.Tables.{cell}
@@ -16,7 +15,6 @@ use Rattle.theory.proofs.Count.{cases}
 use Rattle.theory.proofs.Search.Cells.{getD-any}
 use Rattle.theory.proofs.Parts.{map-at, run-length, run-at}
 use Rattle.words.specs.Words.{word}
-use Rattle.words.proofs.Bytes.{word-past}
 use Rattle.improve.specs.Choice.{partnersOf}
 
 -- ---- f 0, f 1, .. as a list

@@ -1,12 +1,11 @@
 -- The numbers of an answer, and that the number is 0 exactly where nothing is refused. Assumes nothing.
-use Prim.Native.Nat.{ℕ, suc, _+_, _-_, _*_, _^_, _≤_, _<_}
+use Prim.Native.Nat.{ℕ, suc, _-_, _*_, _≤_, _<_}
 use mathlib.Core.Path.{_≡_, refl, sym, ap, _∙_}
-use mathlib.Core.Logic.{_↔_}
 use mathlib.Core.Bool.{Bool, true, false, cond}
 use mathlib.Core.List.{List, [], _∷_}
 use native.Mathlib.Omega.{arith}
 use lib.Dec.{eqb, ltb}
-use lib.IntN.{ℤ, pos, negsuc, subℕ}
+use lib.IntN.{ℤ, subℕ}
 use lib.ListN.{length, getD}
 use borrow.Author.Tests.{lt-ltb, le-ltb}
 use Rattle.limits.specs.declared.Told.{Told}
@@ -23,14 +22,14 @@ use Rattle.sheet.specs.declared.Reply.{Reply}
 use Rattle.sheet.specs.declared.Reply.the-variants as reply
 use Rattle.witness.specs.Given.{mateOf, setOf}
 use Rattle.witness.specs.Cause.{causeOf, firstWrong, valueFor}
-use Rattle.witness.specs.Verdict.{toldOf, refuses, first, isCount, sheetVerdict, pairingLength, witnessLength, partsLength, partnerVerdict, markVerdict, boundVerdict, improveVerdict, checkOf, surplusVerdict, surplusOf, partsVerdict, oddOf, membersOf, partsBytes}
-use Rattle.witness.specs.Promise.{Shown, Maximum, Checked, Surplus, Parted}
+use Rattle.witness.specs.Verdict.{toldOf, refuses, first, isCount, sheetVerdict, pairingLength, witnessLength, partnerVerdict, markVerdict, boundVerdict, improveVerdict, checkOf, surplusVerdict, surplusOf, partsVerdict, oddOf, membersOf}
+use Rattle.witness.specs.Promise.{Checked, Surplus, Parted}
 use Rattle.witness.specs.declared.Verdict.{Verdict}
 use Rattle.witness.specs.declared.Verdict.the-variants.{Accepted, Sheet, PairingLength, WitnessLength, PartsLength, Partner, Mark, NotShown}
 use Rattle.improve.specs.Choice.{pairingAfter, witnessAfter, addedOf, sizeAfter, finishedOf, sessionsAfter}
-use Rattle.improve.specs.Promise.{Means, Improve}
+use Rattle.improve.specs.Promise.{Improve}
 use Rattle.improve.proofs.Twice.{verdict-twice, pairing-twice, witness-twice, finished-twice, size-twice, sessions-twice, added-twice}
-use Rattle.wisharek.specs.Calls.{Unanswered, Answered, CheckCall, SurplusCall, PartsCall, ImproveCall, TwoCalls, twos}
+use Rattle.wisharek.specs.Calls.{CheckCall, SurplusCall, PartsCall, ImproveCall, TwoCalls, twos}
 
 -- ---- the number is 0 only where nothing is refused
 

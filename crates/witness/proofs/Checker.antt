@@ -8,13 +8,13 @@ use native.Mathlib.Omega.{arith}
 use lib.Dec.{eqb, ltb}
 use lib.IntN.{ℤ, pos, negsuc}
 use lib.ListN.{length, getD}
-use borrow.Author.Tests.{eq-eqb, ne-eqb, eqb-true, eqb-false, lt-ltb, le-ltb, ltb-true, ltb-false}
+use borrow.Author.Tests.{eq-eqb, ne-eqb, eqb-true, lt-ltb, le-ltb, ltb-true, ltb-false}
 use Rattle.limits.specs.Limits.{routes, none}
 use Rattle.theory.specs.Count.{least}
-use Rattle.theory.specs.Graph.{Graph, Simple, joined}
+use Rattle.theory.specs.Graph.{Graph, joined}
 use Rattle.theory.specs.Surplus.{surplus}
-use Rattle.theory.specs.Pairing.{Pairing, unpaired}
-use Rattle.theory.proofs.Count.{cases, clash, least-le, least-first, least-passes, least-found}
+use Rattle.theory.specs.Pairing.{unpaired}
+use Rattle.theory.proofs.Count.{cases, clash, least-first, least-passes}
 use Rattle.theory.proofs.Bound.{no-more-pairs}
 use Rattle.theory.proofs.Plan.{no-fewer-sessions}
 use Rattle.rows.specs.Sheet.{order, graphOf}
@@ -25,8 +25,7 @@ use Rattle.sheet.proofs.Read.{simple, order-most}
 use Rattle.witness.specs.Given.{mateOf, setOf}
 use Rattle.witness.specs.Cause.{causeOf, wrong, firstWrong}
 use Rattle.witness.specs.Verdict.{refuses, first, isCount, sheetVerdict, pairingLength, witnessLength, partnerVerdict, markVerdict, boundVerdict, improveVerdict, checkOf, surplusVerdict, partsLength, partsVerdict}
-use Rattle.witness.specs.Promise.{PairingBytes, SetBytes, Begins, Shown, Maximum, Checked}
-use Rattle.witness.specs.declared.partners.Cause.the-variants.{Sound, NoRoute, Itself, Stranger, OneSided}
+use Rattle.witness.specs.Promise.{PairingBytes, Begins, Shown, Maximum, Checked}
 use Rattle.witness.specs.declared.Verdict.{Verdict}
 use Rattle.witness.specs.declared.Verdict.the-variants.{Accepted, Sheet, PairingLength, WitnessLength, PartsLength, Partner, Mark, NotShown}
 
@@ -66,10 +65,6 @@ length-iff a b r h = (
   λ e. rw (eq-eqb a b e),
 )
 
--- what a check that did not refuse has shown
-pub passed-sheet : (s : List ℕ) (r : Verdict) (b : Bool) → r ≡ sheetVerdict s → b ≡ refuses r → b ≡ false → sheet.replyOf s ≡ reply.Accepted
-passed-sheet s r b e f t = sheet-iff s .0 (sym e ∙ accepted-fine r (sym f ∙ t))
-
 -- the least below n that passes is n exactly where none passes
 least-iff : (n : ℕ) (P : ℕ → Bool) (r : Verdict) → refuses r ≡ true → (cond (ltb (least n P) n) r Accepted ≡ Accepted) ↔ ((v : ℕ) → v < n → P v ≡ false)
 least-iff n P r h = (
@@ -99,9 +94,7 @@ witness-iff : (n : ℕ) (witness : List ℕ) → (witnessLength n witness ≡ Ac
 unfolding witnessLength
 witness-iff n witness = length-iff (length witness) n WitnessLength refl
 
-pub passed-witness : (n m : ℕ) (witness : List ℕ) (r : Verdict) (b : Bool) → r ≡ witnessLength n witness → n ≡ m → b ≡ refuses r → b ≡ false → length witness ≡ m
-passed-witness n m witness r b e k f t = witness-iff n witness .0 (sym e ∙ accepted-fine r (sym f ∙ t)) ∙ k
-
+-- what checks that did not refuse have shown
 pub passed-surplus : (s witness : List ℕ) (r : Verdict) (b : Bool) → r ≡ surplusVerdict s witness → b ≡ refuses r → b ≡ false
     → (sheet.replyOf s ≡ reply.Accepted) × (length witness ≡ order s)
 unfolding surplusVerdict

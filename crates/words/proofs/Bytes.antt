@@ -2,14 +2,14 @@
 use Prim.Native.Nat.{ℕ, zero, suc, _+_, _*_, _/_, _%_, _≤_, _<_}
 use mathlib.Core.Path.{_≡_, refl, sym, ap, _∙_}
 use mathlib.Core.Logic.{_≢_, _⊎_, inl, inr, ⊎-elim}
-use mathlib.Core.Bool.{Bool, true, false, cond}
+use mathlib.Core.Bool.{Bool, true, false}
 use mathlib.Core.List.{List, [], _∷_, _++_, map, append-assoc, append-nil}
 use native.Mathlib.Omega.{arith}
 use native.Mathlib.Numerals.{add-one}
 use lib.Dec.{ltb}
 use lib.ListN.{length, getD, set, take, drop, length-append, length-map, length-set, length-take, length-drop, drop-of-length-le, List·getD-map, List·getD-eq-default}
 use native.Mathlib.Decide.{ℕ-discrete}
-use lib.Seq.{take-all, take-suc, set-at, sets, sets-eq, take-append-seam, drop-append-add, drop-drop, drop-cons, getD-set-same, getD-set-other, getD-take, getD-drop}
+use lib.Seq.{take-all, take-suc, set-at, sets, sets-eq, take-append-seam, drop-append-add, drop-drop, drop-cons, getD-set-same, getD-set-other}
 use borrow.Author.Tests.{lt-ltb, le-ltb, ltb-true, ltb-false}
 use Rattle.limits.specs.Limits.{none}
 use Rattle.theory.specs.Parts.{run}
