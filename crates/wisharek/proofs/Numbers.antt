@@ -224,6 +224,13 @@ module _ (s p w : List ℕ) (b : ℕ) (before : List ℕ) where
             (k .means (k .is ∙ sharp-improve s p w (sym (ap (λ (u : Told). u .no) same) ∙ z)));
       }
 
+-- ---- every finished result passes the exported check
+
+pub finished-passes : (s p p′ w w′ : List ℕ) (b : ℕ) (before after : List ℕ) (r : ℕ) → ImproveCall s p p′ w w′ b before after r → length before ≡ 56 → r ≡ 0 → finishedOf s p w b ≡ 1
+    → (x x′ : List ℕ) (t : ℕ) → CheckCall s p′ w′ x x′ t → length x ≡ 24 → t ≡ 0
+finished-passes s p p′ w w′ b before after r f e z h x x′ t g k =
+    g .answered k .number ∙ ap (λ (v : Verdict). toldOf v .no) (f .means e z .shown h)
+
 -- ---- two calls
 
 module _ (s p p₁ p₂ w w₁ w₂ : List ℕ) (a b : ℕ) (x x′ y y′ : List ℕ) (r₁ r₂ : ℕ) where
