@@ -1,0 +1,419 @@
+// Runs the layouts of the scope through the exported calls, and prints a line for each: what is lent, the entry total that
+// the sheet says, then what `wisharek_improve` answers, the unpaired routes counted from the bytes that it left, and what
+// `wisharek_check` says of them. A reply is number, A and B. The file `stdout` beside `src/` is written from the scope and
+// the table of refusals, and not from a run of this program.
+use libc::STDOUT_FILENO;
+use limits::NONE;
+use limits::ROUTES;
+use wisharek::wisharek_check;
+use wisharek::wisharek_improve;
+use words::put_word;
+use words::word_at;
+ghost use Prim.Native.Nat.{_≤_};
+
+// Room for the largest sheet that is accepted.
+const LARGE: usize = 8 + 4 * ROUTES * ROUTES;
+
+// Room for forty numbers.
+const SMALL: usize = 160;
+
+// The bytes of a pairing of ten routes.
+const TEN: usize = 40;
+
+// A budget that sets no limit.
+const ALL: u32 = 4294967295;
+
+// Writes a number with its name before it.
+fn field(name: &[u8], x: u64) {
+    io::write_all(STDOUT_FILENO, name);
+    io::print_decimal(STDOUT_FILENO, x);
+}
+
+// Number k of an answer, of eight bytes.
+fn long_at(answer: &[u8], k: u32) -> u64 {
+    let low = 2 * (k as usize);
+    (word_at(answer, low) as u64) + 4294967296 * (word_at(answer, low + 1) as u64)
+}
+
+// Writes number, A and B of an answer.
+fn reply(name: &[u8], answer: &[u8]) {
+    field(name, long_at(answer, 0));
+    field(b" ", long_at(answer, 1));
+    field(b" ", long_at(answer, 2));
+}
+
+// Writes the other numbers that improve answers.
+fn improved(answer: &[u8]) {
+    field(b", added ", long_at(answer, 3));
+    field(b", size ", long_at(answer, 4));
+    field(b", finished ", long_at(answer, 5));
+    field(b", sessions ", long_at(answer, 6));
+}
+
+// Writes the entry total, where the sheet is long enough to say one.
+fn entries(s: &[u8]) {
+    let k = word_at(s, 0) as usize + 1;
+    if k < s.len() / 4 {
+        field(b" entries ", word_at(s, k) as u64);
+        io::write_all(STDOUT_FILENO, b",");
+    }
+}
+
+// How many routes have no partner.
+fn unpaired(pairing: &[u8]) -> u64 {
+    let mut count = 0;
+    let mut k = 0;
+    while k < pairing.len() / 4 {
+        count += is_none(word_at(pairing, k));
+        k += 1;
+    }
+    count
+}
+
+// 1 for none, 0 for a route.
+fn is_none(x: u32) -> u64
+    ensures { λ r. ⌜ r ≤ 1 ⌝ }
+{
+    if x == NONE {
+        return 1;
+    }
+    0
+}
+
+// Improves the pairing, and writes what is answered.
+fn improve(s: &[u8], pairing: &mut [u8], witness: &mut [u8], budget: u32) {
+    let mut answer = [0u8; 56];
+    wisharek_improve(s, pairing, witness, budget, &mut answer);
+    reply(b" improve ", &answer);
+    improved(&answer);
+    field(b", unpaired ", unpaired(pairing));
+}
+
+// Checks the pairing by the witness, and writes what is answered.
+fn check(s: &[u8], pairing: &[u8], witness: &[u8]) {
+    let mut answer = [0u8; 24];
+    wisharek_check(s, pairing, witness, &mut answer);
+    reply(b", check ", &answer);
+    io::write_all(STDOUT_FILENO, b"\n");
+}
+
+// The line of a layout.
+fn line(label: &[u8], s: &[u8], pairing: &mut [u8], witness: &mut [u8], budget: u32) {
+    field(label, budget as u64);
+    io::write_all(STDOUT_FILENO, b":");
+    entries(s);
+    improve(s, pairing, witness, budget);
+    check(s, pairing, witness);
+}
+
+// The first bytes of a slice, all of them where there are fewer.
+fn front(s: &[u8], bytes: usize) -> &[u8] {
+    let z = 0;
+    if s.len() < bytes {
+        return s;
+    }
+    &s[z..bytes]
+}
+
+// The same of a small sheet.
+fn small(s: &[u8; SMALL], bytes: usize) -> &[u8] {
+    front(s, bytes)
+}
+
+// The words put one after the other, from the first on; the other bytes stay as they are.
+fn put_words(s: &mut [u8; SMALL], words: &[u32]) {
+    let mut k = 0;
+    while k < words.len() {
+        put_word(s, k, words[k]);
+        k += 1;
+    }
+}
+
+// The line of the sheet that has these words, ending after so many bytes.
+fn given(
+    label: &[u8],
+    words: &[u32],
+    bytes: usize,
+    pairing: &mut [u8],
+    witness: &mut [u8],
+    budget: u32,
+) {
+    let mut s = [0u8; SMALL];
+    put_words(&mut s, words);
+    line(label, small(&s, bytes), pairing, witness, budget);
+}
+
+// Entry number e of the sheet in which all routes are joined, m to a row: the routes rising, without the row's own.
+fn other(e: u32, m: u32) -> u32 {
+    if m == 0 {
+        return 0;
+    }
+    let row = e / m;
+    let place = e % m;
+    if place < row {
+        return place;
+    }
+    place + 1
+}
+
+// n and the contents of the sheet in which all of n routes are joined, for an n up to the limit.
+fn put_contents(s: &mut [u8; LARGE], n: u32) {
+    if n == 0 {
+        return;
+    }
+    if ROUTES < n as usize {
+        return;
+    }
+    put_word(s, 0, n);
+    let mut start = 0;
+    let mut k = 0;
+    while k <= n {
+        put_word(s, k as usize + 1, start);
+        start += n - 1;
+        k += 1;
+    }
+}
+
+// Its entries, of which there are so many.
+fn put_entries(s: &mut [u8; LARGE], n: u32, total: u32) {
+    if n == 0 {
+        return;
+    }
+    let mut e = 0;
+    while e < total {
+        put_word(s, n as usize + 2 + e as usize, other(e, n - 1));
+        e += 1;
+    }
+}
+
+// The length of a sheet of n routes and so many entries.
+fn length(n: u32, total: u32) -> usize {
+    8 + 4 * (n as usize) + 4 * (total as usize)
+}
+
+// The line of that sheet, without limit.
+fn all_of(
+    label: &[u8],
+    s: &mut [u8; LARGE],
+    n: u32,
+    total: u32,
+    pairing: &mut [u8],
+    witness: &mut [u8],
+) {
+    put_contents(s, n);
+    put_entries(s, n, total);
+    line(label, front(s, length(n, total)), pairing, witness, ALL);
+}
+
+// The most entries whose numbers fit 16 bits.
+fn all_of_256(s: &mut [u8; LARGE]) {
+    let mut pairing = [255u8; 1024];
+    let mut witness = [0u8; 256];
+    all_of(
+        b"all of 256, budget ",
+        s,
+        256,
+        65280,
+        &mut pairing,
+        &mut witness,
+    );
+}
+
+// One route more, and they do not; one route is left without a partner.
+fn all_of_257(s: &mut [u8; LARGE]) {
+    let mut pairing = [255u8; 1028];
+    let mut witness = [0u8; 257];
+    all_of(
+        b"all of 257, budget ",
+        s,
+        257,
+        65792,
+        &mut pairing,
+        &mut witness,
+    );
+}
+
+// The largest sheet.
+fn all_of_512(s: &mut [u8; LARGE]) {
+    let mut pairing = [255u8; 2048];
+    let mut witness = [0u8; 512];
+    all_of(
+        b"all of 512, budget ",
+        s,
+        512,
+        261632,
+        &mut pairing,
+        &mut witness,
+    );
+}
+
+// One route too many, which 8 bytes are enough to say and 7 are not. The bytes lent are all 0, so that the longest sheet
+// would be one of 513 routes without an entry.
+fn all_of_513(s: &mut [u8; LARGE]) {
+    let mut pairing = [255u8; 2052];
+    let mut witness = [0u8; 513];
+    put_word(s, 0, 513);
+    line(
+        b"n = 513 in 7 bytes, budget ",
+        front(s, 7),
+        &mut pairing,
+        &mut witness,
+        ALL,
+    );
+    line(
+        b"n = 513 in 8 bytes, budget ",
+        front(s, 8),
+        &mut pairing,
+        &mut witness,
+        ALL,
+    );
+    line(
+        b"n = 513 in 12 bytes, budget ",
+        front(s, 12),
+        &mut pairing,
+        &mut witness,
+        ALL,
+    );
+    line(
+        b"n = 513 in 2060 bytes, budget ",
+        front(s, 2060),
+        &mut pairing,
+        &mut witness,
+        ALL,
+    );
+}
+
+// A route that is its own neighbour, once and twice.
+fn one_row() {
+    let mut pairing = [255u8; 4];
+    let mut witness = [0u8; 1];
+    given(
+        b"rows [0], budget ",
+        &[1, 0, 1, 0],
+        16,
+        &mut pairing,
+        &mut witness,
+        ALL,
+    );
+    given(
+        b"rows [0,0], budget ",
+        &[1, 0, 2, 0, 0],
+        20,
+        &mut pairing,
+        &mut witness,
+        ALL,
+    );
+}
+
+// An edge that only one of its routes names.
+fn one_sided() {
+    let mut pairing = [255u8; 8];
+    let mut witness = [0u8; 2];
+    given(
+        b"rows [1] [], budget ",
+        &[2, 0, 1, 1, 1],
+        20,
+        &mut pairing,
+        &mut witness,
+        ALL,
+    );
+}
+
+// 0 joined to 1, 2, 3.
+fn claw(label: &[u8], pairing: &mut [u8], witness: &mut [u8], budget: u32) {
+    given(
+        label,
+        &[4, 0, 3, 4, 5, 6, 1, 2, 3, 0, 0, 0],
+        48,
+        pairing,
+        witness,
+        budget,
+    );
+}
+
+// Three calls in a row on the same buffers.
+fn claws() {
+    let mut pairing = [255u8; 16];
+    let mut witness = [0u8; 4];
+    claw(b"claw from nothing, budget ", &mut pairing, &mut witness, 0);
+    claw(b"claw then, budget ", &mut pairing, &mut witness, 1);
+    claw(b"claw again, budget ", &mut pairing, &mut witness, 1);
+}
+
+// A ring of five, a route joined to two of its routes, and an end on either side.
+fn ten(label: &[u8], pairing: &mut [u8; TEN]) {
+    let mut witness = [0u8; 10];
+    given(
+        label,
+        &[
+            10,
+            0,
+            1,
+            3,
+            6,
+            9,
+            11,
+            13,
+            16,
+            19,
+            21,
+            22,
+            1,
+            0,
+            2,
+            1,
+            3,
+            6,
+            2,
+            4,
+            7,
+            3,
+            5,
+            4,
+            6,
+            2,
+            5,
+            7,
+            3,
+            6,
+            8,
+            7,
+            9,
+            8,
+        ],
+        136,
+        pairing,
+        &mut witness,
+        ALL,
+    );
+}
+
+// Two routes paired, in the bytes of a pairing of ten.
+fn pair(pairing: &mut [u8; TEN], v: u32, w: u32) {
+    put_word(pairing, v as usize, w);
+    put_word(pairing, w as usize, v);
+}
+
+// From nothing, and from the four pairs at which gamma panics.
+fn tens() {
+    let mut nothing = [255u8; TEN];
+    ten(b"ten from nothing, budget ", &mut nothing);
+    let mut start = [255u8; TEN];
+    pair(&mut start, 1, 2);
+    pair(&mut start, 3, 4);
+    pair(&mut start, 5, 6);
+    pair(&mut start, 7, 8);
+    ten(b"ten from 1-2 3-4 5-6 7-8, budget ", &mut start);
+}
+
+fn main() {
+    let mut s = [0u8; LARGE];
+    all_of_513(&mut s);
+    all_of_256(&mut s);
+    all_of_257(&mut s);
+    all_of_512(&mut s);
+    one_row();
+    one_sided();
+    claws();
+    tens();
+}
