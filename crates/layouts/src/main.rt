@@ -17,6 +17,12 @@ const LARGE: usize = 8 + 4 * ROUTES * ROUTES;
 // Room for forty numbers.
 const SMALL: usize = 160;
 
+// Room for a set of one route more than the most.
+const WITNESS: usize = ROUTES + 1;
+
+// Room for their partners.
+const PAIRING: usize = 4 * WITNESS;
+
 // The bytes of a pairing of ten routes.
 const TEN: usize = 40;
 
@@ -42,8 +48,9 @@ fn reply(name: &[u8], answer: &[u8]) {
     field(b" ", long_at(answer, 2));
 }
 
-// Writes the other numbers that improve answers.
+// Writes the numbers that improve answers.
 fn improved(answer: &[u8]) {
+    reply(b" improve ", answer);
     field(b", added ", long_at(answer, 3));
     field(b", size ", long_at(answer, 4));
     field(b", finished ", long_at(answer, 5));
@@ -52,6 +59,7 @@ fn improved(answer: &[u8]) {
 
 // Writes the entry total, where the sheet is long enough to say one.
 fn entries(s: &[u8]) {
+    io::write_all(STDOUT_FILENO, b":");
     let k = word_at(s, 0) as usize + 1;
     if k < s.len() / 4 {
         field(b" entries ", word_at(s, k) as u64);
@@ -84,9 +92,7 @@ fn is_none(x: u32) -> u64
 fn improve(s: &[u8], pairing: &mut [u8], witness: &mut [u8], budget: u32) {
     let mut answer = [0u8; 56];
     wisharek_improve(s, pairing, witness, budget, &mut answer);
-    reply(b" improve ", &answer);
     improved(&answer);
-    field(b", unpaired ", unpaired(pairing));
 }
 
 // Checks the pairing by the witness, and writes what is answered.
@@ -94,16 +100,34 @@ fn check(s: &[u8], pairing: &[u8], witness: &[u8]) {
     let mut answer = [0u8; 24];
     wisharek_check(s, pairing, witness, &mut answer);
     reply(b", check ", &answer);
+}
+
+// Writes what improve left, and the end of the line.
+fn left(s: &[u8], pairing: &[u8], witness: &[u8]) {
+    field(b", unpaired ", unpaired(pairing));
+    check(s, pairing, witness);
     io::write_all(STDOUT_FILENO, b"\n");
 }
 
 // The line of a layout.
 fn line(label: &[u8], s: &[u8], pairing: &mut [u8], witness: &mut [u8], budget: u32) {
-    field(label, budget as u64);
-    io::write_all(STDOUT_FILENO, b":");
+    io::write_all(STDOUT_FILENO, label);
+    field(b", budget ", budget as u64);
     entries(s);
     improve(s, pairing, witness, budget);
-    check(s, pairing, witness);
+    left(s, pairing, witness);
+}
+
+// The line of a layout of n routes from nothing, without limit.
+fn from_nothing(label: &[u8], s: &[u8], n: usize) {
+    let mut pairing = [255u8; PAIRING];
+    let mut witness = [0u8; WITNESS];
+    let z = 0;
+    if WITNESS < n {
+        return;
+    }
+    let end = 4 * n;
+    line(label, s, &mut pairing[z..end], &mut witness[z..n], ALL);
 }
 
 // The first bytes of a slice, all of them where there are fewer.
@@ -127,20 +151,6 @@ fn put_words(s: &mut [u8; SMALL], words: &[u32]) {
         put_word(s, k, words[k]);
         k += 1;
     }
-}
-
-// The line of the sheet that has these words, ending after so many bytes.
-fn given(
-    label: &[u8],
-    words: &[u32],
-    bytes: usize,
-    pairing: &mut [u8],
-    witness: &mut [u8],
-    budget: u32,
-) {
-    let mut s = [0u8; SMALL];
-    put_words(&mut s, words);
-    line(label, small(&s, bytes), pairing, witness, budget);
 }
 
 // Entry number e of the sheet in which all routes are joined, m to a row: the routes rising, without the row's own.
@@ -191,160 +201,75 @@ fn length(n: u32, total: u32) -> usize {
     8 + 4 * (n as usize) + 4 * (total as usize)
 }
 
-// The line of that sheet, without limit.
-fn all_of(
-    label: &[u8],
-    s: &mut [u8; LARGE],
-    n: u32,
-    total: u32,
-    pairing: &mut [u8],
-    witness: &mut [u8],
-) {
+// The line of that sheet.
+fn all_of(label: &[u8], s: &mut [u8; LARGE], n: u32, total: u32) {
     put_contents(s, n);
     put_entries(s, n, total);
-    line(label, front(s, length(n, total)), pairing, witness, ALL);
+    from_nothing(label, front(s, length(n, total)), n as usize);
 }
 
-// The most entries whose numbers fit 16 bits.
-fn all_of_256(s: &mut [u8; LARGE]) {
-    let mut pairing = [255u8; 1024];
-    let mut witness = [0u8; 256];
-    all_of(
-        b"all of 256, budget ",
-        s,
-        256,
-        65280,
-        &mut pairing,
-        &mut witness,
-    );
+// Entry numbers up to 65,535 and above.
+fn all_joined(s: &mut [u8; LARGE]) {
+    // the most entries whose numbers fit 16 bits
+    all_of(b"all of 256", s, 256, 65280);
+    // one route more, and they do not; it stays unpaired
+    all_of(b"all of 257", s, 257, 65792);
+    // the largest sheet
+    all_of(b"all of 512", s, 512, 261632);
 }
 
-// One route more, and they do not; one route is left without a partner.
-fn all_of_257(s: &mut [u8; LARGE]) {
-    let mut pairing = [255u8; 1028];
-    let mut witness = [0u8; 257];
-    all_of(
-        b"all of 257, budget ",
-        s,
-        257,
-        65792,
-        &mut pairing,
-        &mut witness,
-    );
-}
-
-// The largest sheet.
-fn all_of_512(s: &mut [u8; LARGE]) {
-    let mut pairing = [255u8; 2048];
-    let mut witness = [0u8; 512];
-    all_of(
-        b"all of 512, budget ",
-        s,
-        512,
-        261632,
-        &mut pairing,
-        &mut witness,
-    );
-}
-
-// One route too many, which 8 bytes are enough to say and 7 are not. The bytes lent are all 0, so that the longest sheet
-// would be one of 513 routes without an entry.
-fn all_of_513(s: &mut [u8; LARGE]) {
-    let mut pairing = [255u8; 2052];
-    let mut witness = [0u8; 513];
+// One route too many; the bytes lent are all 0.
+fn too_many(s: &mut [u8; LARGE]) {
     put_word(s, 0, 513);
-    line(
-        b"n = 513 in 7 bytes, budget ",
-        front(s, 7),
-        &mut pairing,
-        &mut witness,
-        ALL,
-    );
-    line(
-        b"n = 513 in 8 bytes, budget ",
-        front(s, 8),
-        &mut pairing,
-        &mut witness,
-        ALL,
-    );
-    line(
-        b"n = 513 in 12 bytes, budget ",
-        front(s, 12),
-        &mut pairing,
-        &mut witness,
-        ALL,
-    );
-    line(
-        b"n = 513 in 2060 bytes, budget ",
-        front(s, 2060),
-        &mut pairing,
-        &mut witness,
-        ALL,
-    );
+    // too few bytes to say so
+    from_nothing(b"n = 513 in 7 bytes", front(s, 7), 513);
+    // enough
+    from_nothing(b"n = 513 in 8 bytes", front(s, 8), 513);
+    // the contents begun
+    from_nothing(b"n = 513 in 12 bytes", front(s, 12), 513);
+    // the contents whole: 513 routes, none of them joined
+    from_nothing(b"n = 513 in 2060 bytes", front(s, 2060), 513);
 }
 
-// A route that is its own neighbour, once and twice.
-fn one_row() {
-    let mut pairing = [255u8; 4];
-    let mut witness = [0u8; 1];
-    given(
-        b"rows [0], budget ",
-        &[1, 0, 1, 0],
-        16,
-        &mut pairing,
-        &mut witness,
-        ALL,
-    );
-    given(
-        b"rows [0,0], budget ",
-        &[1, 0, 2, 0, 0],
-        20,
-        &mut pairing,
-        &mut witness,
-        ALL,
-    );
+// The line of the sheet that has these words and ends after so many bytes.
+fn given(label: &[u8], words: &[u32], bytes: usize, n: usize) {
+    let mut s = [0u8; SMALL];
+    put_words(&mut s, words);
+    from_nothing(label, small(&s, bytes), n);
 }
 
-// An edge that only one of its routes names.
-fn one_sided() {
-    let mut pairing = [255u8; 8];
-    let mut witness = [0u8; 2];
-    given(
-        b"rows [1] [], budget ",
-        &[2, 0, 1, 1, 1],
-        20,
-        &mut pairing,
-        &mut witness,
-        ALL,
-    );
+// Rows that are refused.
+fn refused() {
+    // a route that is its own neighbour
+    given(b"rows [0]", &[1, 0, 1, 0], 16, 1);
+    // and that twice
+    given(b"rows [0,0]", &[1, 0, 2, 0, 0], 20, 1);
+    // an edge that only its first route names
+    given(b"rows [1] []", &[2, 0, 1, 1, 1], 20, 2);
 }
 
-// 0 joined to 1, 2, 3.
+// The line of the claw: 0 joined to 1, 2, 3.
 fn claw(label: &[u8], pairing: &mut [u8], witness: &mut [u8], budget: u32) {
-    given(
-        label,
-        &[4, 0, 3, 4, 5, 6, 1, 2, 3, 0, 0, 0],
-        48,
-        pairing,
-        witness,
-        budget,
-    );
+    let mut s = [0u8; SMALL];
+    put_words(&mut s, &[4, 0, 3, 4, 5, 6, 1, 2, 3, 0, 0, 0]);
+    line(label, small(&s, 48), pairing, witness, budget);
 }
 
 // Three calls in a row on the same buffers.
 fn claws() {
     let mut pairing = [255u8; 16];
     let mut witness = [0u8; 4];
-    claw(b"claw from nothing, budget ", &mut pairing, &mut witness, 0);
-    claw(b"claw then, budget ", &mut pairing, &mut witness, 1);
-    claw(b"claw again, budget ", &mut pairing, &mut witness, 1);
+    claw(b"claw from nothing", &mut pairing, &mut witness, 0);
+    claw(b"claw then", &mut pairing, &mut witness, 1);
+    claw(b"claw again", &mut pairing, &mut witness, 1);
 }
 
-// A ring of five, a route joined to two of its routes, and an end on either side.
+// The line of ten routes: a ring of five, a route joined to two of its routes, and an end on either side.
 fn ten(label: &[u8], pairing: &mut [u8; TEN]) {
     let mut witness = [0u8; 10];
-    given(
-        label,
+    let mut s = [0u8; SMALL];
+    put_words(
+        &mut s,
         &[
             10,
             0,
@@ -381,14 +306,11 @@ fn ten(label: &[u8], pairing: &mut [u8; TEN]) {
             9,
             8,
         ],
-        136,
-        pairing,
-        &mut witness,
-        ALL,
     );
+    line(label, small(&s, 136), pairing, &mut witness, ALL);
 }
 
-// Two routes paired, in the bytes of a pairing of ten.
+// Two of ten routes made partners.
 fn pair(pairing: &mut [u8; TEN], v: u32, w: u32) {
     put_word(pairing, v as usize, w);
     put_word(pairing, w as usize, v);
@@ -396,24 +318,21 @@ fn pair(pairing: &mut [u8; TEN], v: u32, w: u32) {
 
 // From nothing, and from the four pairs at which gamma panics.
 fn tens() {
-    let mut nothing = [255u8; TEN];
-    ten(b"ten from nothing, budget ", &mut nothing);
+    let mut pairing = [255u8; TEN];
     let mut start = [255u8; TEN];
     pair(&mut start, 1, 2);
     pair(&mut start, 3, 4);
     pair(&mut start, 5, 6);
     pair(&mut start, 7, 8);
-    ten(b"ten from 1-2 3-4 5-6 7-8, budget ", &mut start);
+    ten(b"ten from nothing", &mut pairing);
+    ten(b"ten from 1-2 3-4 5-6 7-8", &mut start);
 }
 
 fn main() {
     let mut s = [0u8; LARGE];
-    all_of_513(&mut s);
-    all_of_256(&mut s);
-    all_of_257(&mut s);
-    all_of_512(&mut s);
-    one_row();
-    one_sided();
+    too_many(&mut s);
+    all_joined(&mut s);
+    refused();
     claws();
     tens();
 }
