@@ -1,0 +1,377 @@
+// Replays recorded answers of gamma through the exported calls, and prints how many of them agree. The files `data/rising`
+// and `data/other` have one input to a line and what gamma said of it; README.md says how, and what agrees. The file `stdout`
+// beside `src/` is counted from them, and not from a run of this program.
+use libc::STDOUT_FILENO;
+use limits::NONE;
+use wisharek::wisharek_check;
+use wisharek::wisharek_improve;
+use words::put_word;
+use words::word_at;
+ghost use Prim.Native.Nat.{_≤_, _<_};
+ghost use lib.ListN.{length};
+
+// Room for a file's bytes, and one more.
+const BYTES: usize = 65536;
+
+// The most routes of a sheet.
+const MOST: usize = 64;
+
+// Room for the bytes of a sheet.
+const SHEET: usize = 16384;
+
+// Room for the bytes of a pairing.
+const PAIRING: usize = 256;
+
+// A budget that sets no limit.
+const ALL: u32 = 4294967295;
+
+// What comes of a line: refused alike.
+const REFUSED: u32 = 0;
+
+// The same pairs.
+const PAIRS: u32 = 1;
+
+// As many pairs.
+const SIZE: u32 = 2;
+
+// Something else.
+const DIFFERENT: u32 = 3;
+
+// How many of these there are.
+const KINDS: usize = 4;
+
+// A line that is passed over, and not counted.
+const PASSED: u32 = 4;
+
+// A number, and the place behind it.
+struct Read {
+    x: u32,
+    next: usize,
+}
+
+// Whether a byte is a digit.
+fn is_digit(byte: u8) -> bool {
+    if byte < 48 {
+        return false;
+    }
+    byte <= 57
+}
+
+// One more digit; a number that would be too long for four bytes stays.
+fn with_digit(x: u32, byte: u8) -> u32 {
+    if byte < 48 {
+        return x;
+    }
+    if 400000000 <= x {
+        return x;
+    }
+    10 * x + (byte - 48) as u32
+}
+
+// The place of the first digit from a place on, or the end.
+fn digit_from(s: &[u8], at: usize) -> usize {
+    let mut i = at;
+    while i < s.len() {
+        if is_digit(s[i]) {
+            return i;
+        }
+        i += 1;
+    }
+    i
+}
+
+// The number whose digits begin at a place.
+fn digits(s: &[u8], at: usize) -> Read {
+    let mut x = 0;
+    let mut i = at;
+    while i < s.len() {
+        if !is_digit(s[i]) {
+            return Read { x, next: i };
+        }
+        x = with_digit(x, s[i]);
+        i += 1;
+    }
+    Read { x, next: i }
+}
+
+// The first number from a place on; none where there is none.
+fn number_from(s: &[u8], at: usize) -> Read {
+    let i = digit_from(s, at);
+    if s.len() <= i {
+        return Read { x: NONE, next: i };
+    }
+    digits(s, i)
+}
+
+// So many numbers of a line, from a place on, put as words of the sheet; the answer is the place behind them.
+fn copy(line: &[u8], at: usize, sheet: &mut [u8; SHEET], word: u32, count: u32) -> usize {
+    let mut next = at;
+    let mut k = 0;
+    while k < count {
+        let r = number_from(line, next);
+        put_word(sheet, word as usize + k as usize, r.x);
+        next = r.next;
+        k += 1;
+    }
+    next
+}
+
+// The n + 1 starts and as many entries as the last of them says, behind n. The answer is the place behind them.
+fn put_rows(line: &[u8], at: usize, sheet: &mut [u8; SHEET], n: u32) -> usize {
+    if MOST < n as usize {
+        return at;
+    }
+    let next = copy(line, at, sheet, 1, n + 1);
+    let total = word_at(sheet, n as usize + 1);
+    copy(line, next, sheet, n + 2, total)
+}
+
+// The sheet that a line begins with. The answer is the place behind it.
+fn put_sheet(line: &[u8], sheet: &mut [u8; SHEET]) -> usize {
+    let n = number_from(line, 0);
+    put_word(sheet, 0, n.x);
+    put_rows(line, n.next, sheet, n.x)
+}
+
+// The pairs of the start, which say first how many they are. The answer is the place behind them.
+fn put_start(line: &[u8], at: usize, pairing: &mut [u8; PAIRING]) -> usize {
+    let count = number_from(line, at);
+    let mut next = count.next;
+    let mut k = 0;
+    while k < count.x {
+        let v = number_from(line, next);
+        let w = number_from(line, v.next);
+        put_word(pairing, v.x as usize, w.x);
+        put_word(pairing, w.x as usize, v.x);
+        next = w.next;
+        k += 1;
+    }
+    next
+}
+
+// The length of the sheet that these bytes begin with.
+fn length_of(sheet: &[u8]) -> usize {
+    let n = word_at(sheet, 0) as usize;
+    8 + 4 * n + 4 * (word_at(sheet, n + 1) as usize)
+}
+
+// The first bytes of a slice, all of them where there are fewer.
+fn front(s: &[u8], bytes: usize) -> &[u8] {
+    let z = 0;
+    if s.len() < bytes {
+        return s;
+    }
+    &s[z..bytes]
+}
+
+// Number k of an answer, of eight bytes.
+fn long_at(answer: &[u8], k: u32) -> u64 {
+    let low = 2 * (k as usize);
+    (word_at(answer, low) as u64) + 4294967296 * (word_at(answer, low + 1) as u64)
+}
+
+// Whether number k of an answer is what gamma said.
+fn same(answer: &[u8], k: u32, said: Read) -> bool {
+    long_at(answer, k) == said.x as u64
+}
+
+// Whether an answer is the refusal that stands at a place: number, A and B.
+fn same_refusal(line: &[u8], at: usize, answer: &[u8]) -> bool {
+    let no = number_from(line, at);
+    let a = number_from(line, no.next);
+    let b = number_from(line, a.next);
+    same(answer, 0, no) && same(answer, 1, a) && same(answer, 2, b)
+}
+
+// Whether a pairing has so many pairs that stand from a place on.
+fn has_pairs(line: &[u8], at: usize, count: u32, pairing: &[u8]) -> bool {
+    let mut next = at;
+    let mut k = 0;
+    while k < count {
+        let v = number_from(line, next);
+        let w = number_from(line, v.next);
+        if word_at(pairing, v.x as usize) != w.x {
+            return false;
+        }
+        next = w.next;
+        k += 1;
+    }
+    true
+}
+
+// Whether the pairing is shown to be maximum.
+fn accepted(sheet: &[u8], pairing: &[u8], witness: &[u8]) -> bool {
+    let mut answer = [0u8; 24];
+    wisharek_check(sheet, pairing, witness, &mut answer) == 0
+}
+
+// Whether an answer says that it is accepted and finished.
+fn finished(answer: &[u8]) -> bool {
+    long_at(answer, 0) == 0 && long_at(answer, 5) == 1
+}
+
+// What comes of a line whose size or pairs stand at a place.
+fn compare_pairs(line: &[u8], at: usize, pairing: &[u8], answer: &[u8]) -> u32 {
+    let exact = number_from(line, at);
+    let size = number_from(line, exact.next);
+    if !finished(answer) {
+        return DIFFERENT;
+    }
+    if !same(answer, 4, size) {
+        return DIFFERENT;
+    }
+    if exact.x == 0 {
+        return SIZE;
+    }
+    if has_pairs(line, size.next, size.x, pairing) {
+        return PAIRS;
+    }
+    DIFFERENT
+}
+
+// What comes of a line whose answer stands at a place.
+fn compare(
+    line: &[u8],
+    at: usize,
+    sheet: &[u8],
+    pairing: &[u8],
+    witness: &[u8],
+    answer: &[u8],
+) -> u32 {
+    let refused = number_from(line, at);
+    if refused.x == 1 {
+        if same_refusal(line, refused.next, answer) {
+            return REFUSED;
+        }
+        return DIFFERENT;
+    }
+    if !accepted(sheet, pairing, witness) {
+        return DIFFERENT;
+    }
+    compare_pairs(line, refused.next, pairing, answer)
+}
+
+// Improves the pairing without limit, and compares.
+fn improve(line: &[u8], at: usize, sheet: &[u8], pairing: &mut [u8], witness: &mut [u8]) -> u32 {
+    let mut answer = [0u8; 56];
+    wisharek_improve(sheet, pairing, witness, ALL, &mut answer);
+    compare(line, at, sheet, pairing, witness, &answer)
+}
+
+// The same of a sheet in a larger buffer, with the buffers of its routes.
+fn fitted(line: &[u8], at: usize, sheet: &[u8], pairing: &mut [u8]) -> u32 {
+    let mut witness = [0u8; MOST];
+    let z = 0;
+    let n = word_at(sheet, 0) as usize;
+    if MOST < n {
+        return DIFFERENT;
+    }
+    let end = 4 * n;
+    if pairing.len() < end {
+        return DIFFERENT;
+    }
+    improve(
+        line,
+        at,
+        front(sheet, length_of(sheet)),
+        &mut pairing[z..end],
+        &mut witness[z..n],
+    )
+}
+
+// The same with the sheet and the start put in place.
+fn placed(line: &[u8], sheet: &mut [u8; SHEET], pairing: &mut [u8; PAIRING]) -> u32 {
+    let at = put_sheet(line, sheet);
+    let said = put_start(line, at, pairing);
+    fitted(line, said, sheet, pairing)
+}
+
+// A line: one that begins with # is passed over.
+fn replay_line(line: &[u8]) -> u32 {
+    let mut sheet = [0u8; SHEET];
+    let mut pairing = [255u8; PAIRING];
+    if line.len() == 0 {
+        return PASSED;
+    }
+    if line[0] == 35 {
+        return PASSED;
+    }
+    placed(line, &mut sheet, &mut pairing)
+}
+
+// The place of the next end of a line, or the end of the text.
+fn line_end(text: &[u8], at: usize) -> usize
+    requires { ⌜ at < length (now text) ⌝ }
+    ensures { λ r. ⌜ (at ≤ r) × (r ≤ length (now (text .entry))) ⌝ }
+{
+    let mut i = at;
+    while i < text.len() {
+        if text[i] == 10 {
+            return i;
+        }
+        i += 1;
+    }
+    i
+}
+
+// One more of a kind.
+fn count(t: &mut [u64; KINDS], kind: u32) {
+    let k = kind as usize;
+    if k < KINDS {
+        let n = t[k];
+        if n < BYTES as u64 {
+            t[k] = n + 1;
+        }
+    }
+}
+
+// All lines, in turn.
+fn replay(text: &[u8], counted: &mut [u64; KINDS]) {
+    let mut at = 0;
+    while at < text.len() {
+        let end = line_end(text, at);
+        count(counted, replay_line(&text[at..end]));
+        at = end + 1;
+    }
+}
+
+// Writes a number with words behind it.
+fn number(x: u64, what: &[u8]) {
+    io::write_all(STDOUT_FILENO, b" ");
+    io::print_decimal(STDOUT_FILENO, x);
+    io::write_all(STDOUT_FILENO, what);
+}
+
+// Replays a text, and writes what was counted.
+fn report(text: &[u8]) {
+    let mut counted = [0u64; KINDS];
+    replay(text, &mut counted);
+    number(counted[0], b" refused alike,");
+    number(counted[1], b" with the same pairs,");
+    number(counted[2], b" with as many pairs,");
+    number(counted[3], b" differences\n");
+}
+
+// One file.
+fn replay_file(path: &[u8]) {
+    let fd = os::open_read(path);
+    if fd < 0 {
+        os::fail(path);
+        return;
+    }
+    let mut text = [0u8; BYTES];
+    let n = io::read_full(fd, &mut text);
+    libc::close(fd);
+    if BYTES <= n {
+        io::write_all(STDOUT_FILENO, b"the file is too long\n");
+        return;
+    }
+    io::write_all(STDOUT_FILENO, path);
+    io::write_all(STDOUT_FILENO, b":");
+    report(&text[..n]);
+}
+
+fn main() {
+    replay_file(b"rising");
+    replay_file(b"other");
+}
