@@ -2,7 +2,7 @@
 //!
 //!     cargo run --release --offline --bin compare              # as .ci/run does, about a minute
 //!     cargo run --release --offline --bin compare long 7       # at length, from seed 7
-//!     cargo run --release --offline --bin compare record       # writes compare/recorded/ anew
+//!     cargo run --release --offline --bin compare record       # writes crates/replay/data/ anew
 //!
 //! The first difference ends it, with its input as rows and a status that is not 0. Where gamma's source was not found, the
 //! first says so and ends well, as the recorded answers are compared by the tests.

@@ -1,4 +1,4 @@
-//! Recorded answers of gamma, as the files of compare/recorded/ hold them: in `rising` each row rises, in `other` it stands
+//! Recorded answers of gamma, as the files of crates/replay/data/ hold them: in `rising` each row rises, in `other` it stands
 //! in any order. A line is one input and what gamma said of it:
 //!
 //!     the numbers of the sheet | how many pairs at the start, the pairs | what gamma said
@@ -40,9 +40,19 @@ pub enum Said {
     Size(usize),
 }
 
+/// The crate of the program that replays them too.
+fn replay() -> PathBuf {
+    PathBuf::from(env!("CARGO_MANIFEST_DIR")).join("../../crates/replay")
+}
+
 /// Where a file stands.
 pub fn place(file: &str) -> PathBuf {
-    PathBuf::from(env!("CARGO_MANIFEST_DIR")).join("recorded").join(file)
+    replay().join("data").join(file)
+}
+
+/// What the program that replays them has to print.
+pub fn expected() -> String {
+    std::fs::read_to_string(replay().join("stdout")).expect("crates/replay/stdout")
 }
 
 const HEADING: &str = "# gamma 0.9.0: what it says of rows and starts. rust/compare/src/recorded.rs has the form.\n";

@@ -13,7 +13,7 @@ fn file(name: &str) -> String {
 fn recorded_answers_are_not_gammas() {
     for (name, rising) in FILES {
         let lines = recorded::make(rising);
-        assert!(file(name) == recorded::write(&lines), "compare/recorded/{name} is not what gamma says");
+        assert!(file(name) == recorded::write(&lines), "crates/replay/data/{name} is not what gamma says");
         println!("recorded answers in {name} made anew: {} lines, the same", lines.len());
     }
 }
@@ -44,6 +44,11 @@ fn proved_calls_differ_from_recorded_answers() {
             }] += 1;
         }
         println!("recorded answers in {name}: refused, exact pairs, size alone: {counts:?}, no difference");
+        let [refused, pairs, sizes] = counts;
+        let line = format!(
+            "{name}: {refused} refused alike, {pairs} with the same pairs, {sizes} with as many pairs, 0 differences"
+        );
+        assert!(recorded::expected().lines().any(|said| said == line), "crates/replay/stdout lacks: {line}");
         assert!(counts.iter().all(|&count| count >= 40), "{name}: a kind with few answers: {counts:?}");
     }
 }
