@@ -18,10 +18,10 @@ use Rattle.theory.proofs.Count.{clash}
 -- ---- either way out
 
 found-answers : (room : ℕ) (g : Graph) (p p′ l : List ℕ) → found p′ ≡ searchedIn room g p → Answers room g p p′ l l true
-found-answers room g p p′ l e = record { is = e; partners = ap (λ (o : Outcome). after o p) e; kept = λ t. refl }
+found-answers room g p p′ l e = record { is = e; partners = ap (λ (o : Outcome). after o p) e; labels = λ t. clash true refl t; kept = λ t. refl }
 
-stuck-answers : (room : ℕ) (g : Graph) (p l l′ : List ℕ) → stuck (map mark (take (g .order) l′)) ≡ searchedIn room g p → Answers room g p p l l′ false
-stuck-answers room g p l l′ e = record { is = e; partners = ap (λ (o : Outcome). after o p) e; kept = λ t. clash false t refl }
+stuck-answers : (room : ℕ) (g : Graph) (p l l′ : List ℕ) → stuck (map mark (take (g .order) l′)) ≡ searchedIn room g p → l′ ≡ ended room g p .line .label → Answers room g p p l l′ false
+stuck-answers room g p l l′ e k = record { is = e; partners = ap (λ (o : Outcome). after o p) e; labels = λ t. k; kept = λ t. clash false t refl }
 
 -- ---- the tables
 
@@ -60,4 +60,4 @@ module _ (room : ℕ) (g : Graph) (p : List ℕ) (n : ℕ) (mate₀ top₀ root�
 
     pub none-found : hit ≡ false → (l : List ℕ) → Answers room g p p l label false
     unfolding searchedIn
-    none-found h l = stuck-answers room g p l label (rw (← ends, h) refl)
+    none-found h l = stuck-answers room g p l label (rw (← ends, h) refl) (ap (λ (s : Tables). s .line .label) ends)

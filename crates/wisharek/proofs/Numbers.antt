@@ -242,8 +242,7 @@ module _ (s p p₁ p₂ w w₁ w₂ : List ℕ) (a b : ℕ) (x x′ y y′ : Lis
       let i = h .left ey in
       record {
         left = (i .0 ∙ pairing-twice s p w a b, i .1 ∙ witness-twice s p w a b);
-        one = addedOf s p w a;
-        two = addedOf s (pairingAfter s p w a) (witnessAfter s p w a) b;
+        more = addedOf s (pairingAfter s p w a) (witnessAfter s p w a) b;
         sum = added-twice s p w a b;
         answered-first = (r₁, f .answered ex);
         answered-second = rw (← verdict-twice s p w a b, ← size-twice s p w a b, ← finished-twice s p w a b, ← sessions-twice s p w a b) (h .answered ey);

@@ -65,8 +65,7 @@ pub record ImproveCall (s p p′ w w′ : List ℕ) (b : ℕ) (before after : Li
 -- answers what that one answers, but for the pairs added; and those of both sum up to its
 pub record TwoCalls (s p p′ w w′ : List ℕ) (a b : ℕ) (first second : List ℕ) (r : ℕ) : Type 0 where
   pub left : (p′ ≡ pairingAfter s p w (a + b)) × (w′ ≡ witnessAfter s p w (a + b))
-  pub one : ℕ
-  pub two : ℕ
-  pub sum : one + two ≡ addedOf s p w (a + b)
-  pub answered-first : (x : ℕ) × Answered (improveVerdict s p w) (one ∷ sizeAfter s p w a ∷ finishedOf s p w a ∷ sessionsAfter s p w a ∷ []) first x
-  pub answered-second : Answered (improveVerdict s p w) (two ∷ sizeAfter s p w (a + b) ∷ finishedOf s p w (a + b) ∷ sessionsAfter s p w (a + b) ∷ []) second r
+  pub answered-first : (x : ℕ) × Answered (improveVerdict s p w) (addedOf s p w a ∷ sizeAfter s p w a ∷ finishedOf s p w a ∷ sessionsAfter s p w a ∷ []) first x
+  pub more : ℕ
+  pub sum : addedOf s p w a + more ≡ addedOf s p w (a + b)
+  pub answered-second : Answered (improveVerdict s p w) (more ∷ sizeAfter s p w (a + b) ∷ finishedOf s p w (a + b) ∷ sessionsAfter s p w (a + b) ∷ []) second r
