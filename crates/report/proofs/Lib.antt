@@ -1,0 +1,4 @@
+mod Putting
+mod Said
+pub mod Room
+mod Whole
