@@ -5,7 +5,7 @@ use mathlib.Core.Bool.{Bool, true, false, cond}
 use mathlib.Core.List.{List, [], _∷_, _++_}
 use native.Mathlib.Omega.{arith}
 use lib.Dec.{ltb}
-use lib.ListN.{length, take, drop, replicate, length-replicate}
+use lib.ListN.{length, take, drop, replicate, length-append, length-take, length-replicate}
 use lib.Seq.{take-all}
 use borrow.Author.Tests.{ltb-true, ltb-false, lt-ltb, le-ltb}
 use Rattle.limits.specs.Limits.{routes, none}
@@ -112,7 +112,7 @@ reported s out out′ r h A =
     record {
       long = omega (arith, H .place, text-most s);
       written = H .is ∙ ap (λ (l : List ℕ). l ++ drop r out) (take-all room (textOf s) (text-most s));
-      fits = omega (arith, H .place);
+      fits = rw (H .is) (simp (length-append, length-take) (omega (arith, H .place)));
     }
 
 pub report-long : (s out out′ : List ℕ) (r : ℕ) → length out ≡ room → 65536 < length s → Appends out 0 out′ r tooLong → Reports s out out′ r

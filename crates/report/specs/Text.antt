@@ -11,7 +11,6 @@ use Rattle.theory.specs.Pairing.{unpaired}
 use Rattle.rows.specs.Sheet.{order, graphOf}
 use Rattle.witness.specs.Given.{mateOf, setOf}
 use Rattle.witness.specs.Verdict.{toldOf, refuses, improveVerdict}
-use Rattle.report.specs.Put.{room}
 use Rattle.improve.specs.Choice.{pairingAfter, witnessAfter, sizeAfter, sessionsAfter}
 
 -- the last f digits of x, in decimal, without zeros in front
@@ -104,7 +103,7 @@ textOf s =
 pub record Reports (s out out′ : List ℕ) (r : ℕ) : Type 0 where
   pub long : r ≡ length (textOf s)
   pub written : out′ ≡ textOf s ++ drop r out
-  pub fits : r ≤ room
+  pub fits : r ≤ length out′
 
 -- the bytes that the code begins with, for as many routes as there may be
 unfoldable pub unpairedStart : List ℕ
