@@ -1,4 +1,6 @@
 mod Putting
 mod Said
+pub mod Digits
 pub mod Room
 mod Whole
+pub mod Shown

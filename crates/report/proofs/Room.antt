@@ -67,8 +67,8 @@ pair-most : (n v w : ℕ) → v < n → n ≤ routes → length (pairLine n v w)
 unfolding pairLine
 pair-most n v w h g = cases (ltb w n && ltb v w)
     (λ e.
-      let a : (w < n) × (v < w) = simp tests at e in
-      rw e (simp length-append (omega (arith, small-digits v (omega arith), small-spaced w (omega (arith, a .0))))))
+    let a : (w < n) × (v < w) = simp tests at e in
+    rw e (simp length-append (omega (arith, small-digits v (omega arith), small-spaced w (omega (arith, a .0))))))
     (λ e. rw e (omega arith))
 
 member-most : (witness : List ℕ) (v : ℕ) → v < routes → length (member witness v) ≤ 4

@@ -6,7 +6,7 @@ use mathlib.Core.List.{List, [], _∷_, _++_}
 use native.Mathlib.Omega.{arith}
 use lib.Dec.{ltb}
 use lib.ListN.{length, take, drop, replicate, length-append, length-take, length-replicate}
-use lib.Seq.{take-all}
+use lib.Seq.{take-all, length-take-le}
 use borrow.Author.Tests.{ltb-true, ltb-false, lt-ltb, le-ltb}
 use Rattle.limits.specs.Limits.{routes, none}
 use Rattle.limits.specs.declared.Told.{Told}
@@ -98,21 +98,23 @@ module _ (s : List ℕ) (many : routes < order s) where
 start-text : (s : List ℕ) (m : ℕ) → m ≡ min (order s) routes → planText s (take (4 * m) unpairedStart) (take m emptySet) ≡ planText s (replicate (4 * order s) 255) (replicate (order s) 0)
 start-text s m em = cases (ltb routes (order s))
     (λ h.
-      let many = ltb-true routes (order s) h in
-      first-refusal s many _ _ ∙ sym (first-refusal s many _ _))
+    let many = ltb-true routes (order s) h in
+    first-refusal s many _ _ ∙ sym (first-refusal s many _ _))
     (λ h.
-      let few = ltb-false routes (order s) h in
-      let e : m ≡ order s = omega arith in
-      rw (start-is m (omega arith), set-is m (omega arith), e) refl)
+    let few = ltb-false routes (order s) h in
+    let e : m ≡ order s = omega arith in
+    rw (start-is m (omega arith), set-is m (omega arith), e) refl)
 
 -- what a call leaves
 reported : (s out out′ : List ℕ) (r : ℕ) → length out ≡ room → Appends out 0 out′ r (textOf s) → Reports s out out′ r
 reported s out out′ r h A =
     let H = A out [] (record { long = h; is = refl; place = refl }) in
+    let f : r ≤ length out′ = rw (H .is) (simp (length-append, length-take) (omega (arith, H .place))) in
     record {
       long = omega (arith, H .place, text-most s);
       written = H .is ∙ ap (λ (l : List ℕ). l ++ drop r out) (take-all room (textOf s) (text-most s));
-      fits = rw (H .is) (simp (length-append, length-take) (omega (arith, H .place)));
+      fits = f;
+      first = sym (length-take-le r out′ f);
     }
 
 pub report-long : (s out out′ : List ℕ) (r : ℕ) → length out ≡ room → 65536 < length s → Appends out 0 out′ r tooLong → Reports s out out′ r

@@ -4,7 +4,7 @@ use mathlib.Core.Path.{_≡_}
 use mathlib.Core.Bool.{cond, _&&_}
 use mathlib.Core.List.{List, [], _∷_, _++_}
 use lib.Dec.{ltb}
-use lib.ListN.{length, drop, replicate}
+use lib.ListN.{length, take, drop, replicate}
 use Rattle.limits.specs.Limits.{routes, none}
 use Rattle.limits.specs.declared.Told.{Told}
 use Rattle.theory.specs.Pairing.{unpaired}
@@ -103,7 +103,9 @@ textOf s =
 pub record Reports (s out out′ : List ℕ) (r : ℕ) : Type 0 where
   pub long : r ≡ length (textOf s)
   pub written : out′ ≡ textOf s ++ drop r out
+  -- both follow; they are stated so that a caller can lend the first r bytes on
   pub fits : r ≤ length out′
+  pub first : r ≡ length (take r out′)
 
 -- the bytes that the code begins with, for as many routes as there may be
 unfoldable pub unpairedStart : List ℕ

@@ -39,7 +39,14 @@ fn put_plan(out: &mut [u8; ROOM], s: &[u8], pairing: &mut [u8], witness: &mut [u
         return put_refusal(out, 0, tell(verdict));
     }
     let n = order(s);
-    let a = put_counts(out, 0, n, made.size, made.sessions - made.size, made.sessions);
+    let a = put_counts(
+        out,
+        0,
+        n,
+        made.size,
+        made.sessions - made.size,
+        made.sessions,
+    );
     let b = put_pairs(out, a, n, pairing);
     put_over(out, b, n, witness)
 }

@@ -1,0 +1,55 @@
+-- What an accepted sheet's text shows: no limit means the largest size, and the set after `over` is one that the checker accepts. Assumes nothing.
+use Prim.Native.Nat.{ℕ, _-_, _≤_}
+use mathlib.Core.Path.{_≡_, refl, sym, ap, _∙_, subst}
+use mathlib.Core.Bool.{false, _&&_}
+use mathlib.Core.List.{List}
+use native.Mathlib.Omega.{arith}
+use lib.Dec.{ltb}
+use Rattle.limits.specs.Limits.{routes, none}
+use Rattle.theory.specs.Largest.{Largest}
+use Rattle.theory.specs.Pairing.{pairs, paired}
+use Rattle.theory.proofs.Count.{count-le}
+use Rattle.rows.specs.Sheet.{order, graphOf}
+use Rattle.sheet.proofs.Read.{order-most}
+use Rattle.witness.specs.Given.{mateOf}
+use Rattle.witness.specs.Verdict.{refuses, improveVerdict, checkOf}
+use Rattle.witness.specs.Promise.{Begins}
+use Rattle.witness.specs.declared.Verdict.the-variants.{Accepted}
+use Rattle.witness.proofs.Checker.{passed-improve}
+use Rattle.improve.specs.Choice.{improved, last, witnessBy, finishedBy, sizeOf, sessionsOf, pairingAfter, witnessAfter, sizeAfter}
+use Rattle.improve.specs.Promise.{Means}
+use Rattle.improve.proofs.Meaning.{means}
+use Rattle.improve.proofs.Calls.{left, left-is, witness-is}
+
+module _ (s p w : List ℕ) (h : refuses (improveVerdict s p w) ≡ false) where
+  begun : Begins s p w
+  begun = passed-improve s p w _ _ refl refl h
+
+  meant : Means s p (left s p w none) w (witnessBy (last s p none) w) none (sizeOf s (left s p w none) - sizeOf s p) (sizeOf s (left s p w none)) (finishedBy (last s p none)) (sessionsOf s (left s p w none))
+  meant = means s p w begun none
+
+  -- no pairing has more pairs than there are routes, so no limit is none
+  largest-most : meant .m ≤ routes
+  unfolding pairs
+  largest-most = omega (
+    arith,
+    meant .largest .reached,
+    count-le (order s) (λ v. paired (graphOf s) (meant .largest .mate) v && ltb v (meant .largest .mate v)),
+    order-most s (begun .accepted),
+  )
+
+  start-most : sizeOf s p ≤ meant .m
+  unfolding sizeOf
+  start-most = meant .largest .most (mateOf p) (begun .partners .valid)
+
+  full : sizeOf s (left s p w none) ≡ meant .m
+  full = omega (arith, meant .reached, largest-most, start-most)
+
+  -- the number after `pairs` is the largest size
+  pub size-largest : Largest (graphOf s) (sizeAfter s p w none)
+  unfolding sizeAfter
+  size-largest = rw (h, left-is s p w none h) (subst (Largest (graphOf s)) (sym full) (meant .largest))
+
+  -- the pairs and the set that are written are accepted by the checker
+  pub set-shows : checkOf s (pairingAfter s p w none) (witnessAfter s p w none) ≡ Accepted
+  set-shows = rw (left-is s p w none h, witness-is s p w none h) (meant .shown (meant .exactly .1 full))
