@@ -1,23 +1,30 @@
--- What an accepted sheet's text shows: no limit means the largest size, and the set after `over` is one that the checker accepts. Assumes nothing.
-use Prim.Native.Nat.{ℕ, _-_, _≤_}
+-- What an accepted sheet's text shows: no limit means the largest size, and the set after `over` is one that the checker accepts. And the start is never
+-- refused, so that what is refused is the sheet. Assumes nothing.
+use Prim.Native.Nat.{ℕ, _+_, _*_, _-_, _≤_, _<_}
 use mathlib.Core.Path.{_≡_, refl, sym, ap, _∙_, subst}
+use mathlib.Core.Logic.{inl}
 use mathlib.Core.Bool.{false, _&&_}
 use mathlib.Core.List.{List}
 use native.Mathlib.Omega.{arith}
 use lib.Dec.{ltb}
+use lib.ListN.{length, length-replicate, getD-replicate}
 use Rattle.limits.specs.Limits.{routes, none}
 use Rattle.theory.specs.Largest.{Largest}
 use Rattle.theory.specs.Pairing.{pairs, paired}
 use Rattle.theory.proofs.Count.{count-le}
 use Rattle.rows.specs.Sheet.{order, graphOf}
+use Rattle.words.proofs.Bytes.{word-there}
+use Rattle.sheet.specs.Reply.{replyOf}
+use Rattle.sheet.specs.declared.Reply.the-variants as sheet
 use Rattle.sheet.proofs.Read.{order-most}
 use Rattle.witness.specs.Given.{mateOf}
 use Rattle.witness.specs.Verdict.{refuses, improveVerdict, checkOf}
 use Rattle.witness.specs.Promise.{Begins}
 use Rattle.witness.specs.declared.Verdict.the-variants.{Accepted}
-use Rattle.witness.proofs.Checker.{passed-improve}
+use Rattle.witness.proofs.Checker.{passed-improve, begins-accepted}
 use Rattle.improve.specs.Choice.{improved, last, witnessBy, finishedBy, sizeOf, sessionsOf, pairingAfter, witnessAfter, sizeAfter}
 use Rattle.improve.specs.Promise.{Means}
+use Rattle.report.specs.Text.{noPairs, noMembers}
 use Rattle.improve.proofs.Meaning.{means}
 use Rattle.improve.proofs.Calls.{left, left-is, witness-is}
 
@@ -53,3 +60,29 @@ module _ (s p w : List ℕ) (h : refuses (improveVerdict s p w) ≡ false) where
   -- the pairs and the set that are written are accepted by the checker
   pub set-shows : checkOf s (pairingAfter s p w none) (witnessAfter s p w none) ≡ Accepted
   set-shows = rw (left-is s p w none h, witness-is s p w none h) (meant .shown (meant .exactly .1 full))
+
+-- the start is a pairing of any accepted sheet
+module _ (s : List ℕ) (ok : replyOf s ≡ sheet.Accepted) where
+  start-partner : (v : ℕ) → v < order s → mateOf (noPairs s) v ≡ none
+  start-partner v h =
+      word-there (noPairs s) v (simp length-replicate (omega arith))
+      ∙ simp (
+        getD-replicate {A = ℕ} (4 * order s) (4 * v) 255 0 (omega arith),
+        getD-replicate {A = ℕ} (4 * order s) (4 * v + 1) 255 0 (omega arith),
+        getD-replicate {A = ℕ} (4 * order s) (4 * v + 2) 255 0 (omega arith),
+        getD-replicate {A = ℕ} (4 * order s) (4 * v + 3) 255 0 (omega arith),
+      )
+
+  alone : {C : Type 0} (v : ℕ) → v < order s → mateOf (noPairs s) v < order s → C
+  alone v h g = absurd (omega (arith, start-partner v h, order-most s ok))
+
+  pub start-accepted : improveVerdict s (noPairs s) (noMembers s) ≡ Accepted
+  start-accepted = begins-accepted s (noPairs s) (noMembers s) (record {
+    accepted = ok;
+    partners = record {
+      long = length-replicate (4 * order s) 255;
+      partners = λ v h. inl (start-partner v h);
+      valid = record { edge = λ v h g. alone v h g; back = λ v h g. alone v h g };
+    };
+    long = length-replicate (order s) 0;
+  })

@@ -24,7 +24,8 @@ use Rattle.witness.proofs.Checker.{passed-sheet, passed-improve, begins-accepte
 use Rattle.improve.specs.Choice.{sizeOf, sessionsOf}
 use Rattle.improve.specs.Promise.{Means, Improve}
 use Rattle.report.specs.Put.{room, Holds, Appends}
-use Rattle.report.specs.Text.{tooLong, refusal, counts, pairLines, overLine, planText, textOf, Reports, unpairedStart, emptySet}
+use Rattle.report.specs.Text.{tooLong, refusal, counts, pairLines, overLine, planText, textOf, noPairs, noMembers, Reports}
+use Rattle.report.specs.Start.{unpairedStart, emptySet}
 use Rattle.report.proofs.Putting.{then, same}
 use Rattle.report.proofs.Room.{text-most}
 
@@ -95,7 +96,7 @@ module _ (s : List ℕ) (many : routes < order s) where
   first-refusal p w = rw (sheet-refused, sheet-refused) refl
 
 -- the text is that from the start of the right length
-start-text : (s : List ℕ) (m : ℕ) → m ≡ min (order s) routes → planText s (take (4 * m) unpairedStart) (take m emptySet) ≡ planText s (replicate (4 * order s) 255) (replicate (order s) 0)
+start-text : (s : List ℕ) (m : ℕ) → m ≡ min (order s) routes → planText s (take (4 * m) unpairedStart) (take m emptySet) ≡ planText s (noPairs s) (noMembers s)
 start-text s m em = cases (ltb routes (order s))
     (λ h.
     let many = ltb-true routes (order s) h in

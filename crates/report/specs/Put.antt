@@ -1,4 +1,4 @@
--- Writing after what stands. Past the last byte nothing is written, and the place stays at the end; Text has laws by which that never happens.
+-- Writing after what stands. Past the last byte nothing is written, and the place stays at the end; every text of a report is shorter (proofs/Room.antt).
 use Prim.Native.Nat.{ℕ, min}
 use mathlib.Core.Path.{_≡_}
 use mathlib.Core.List.{List, _++_}

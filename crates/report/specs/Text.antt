@@ -5,7 +5,7 @@ use mathlib.Core.Bool.{cond, _&&_}
 use mathlib.Core.List.{List, [], _∷_, _++_}
 use lib.Dec.{ltb}
 use lib.ListN.{length, take, drop, replicate}
-use Rattle.limits.specs.Limits.{routes, none}
+use Rattle.limits.specs.Limits.{none}
 use Rattle.limits.specs.declared.Told.{Told}
 use Rattle.theory.specs.Pairing.{unpaired}
 use Rattle.rows.specs.Sheet.{order, graphOf}
@@ -93,10 +93,17 @@ planText s p w =
     let lines = counts n (sizeAfter s p w none) (unpaired (graphOf s) (mateOf p′)) (sessionsAfter s p w none) ++ pairLines n p′ ++ overLine n (witnessAfter s p w none) in
     cond (refuses (improveVerdict s p w)) told lines
 
--- the whole: more than 65,536 bytes are not looked at; the start has no pairs, and the witness bytes are 0
+-- the start: no partner for any route, and no route in the set
+abbrev pub noPairs : List ℕ → List ℕ
+noPairs s = replicate (4 * order s) 255
+
+abbrev pub noMembers : List ℕ → List ℕ
+noMembers s = replicate (order s) 0
+
+-- the whole: more than 65,536 bytes are not looked at
 unfoldable pub textOf : List ℕ → List ℕ
 textOf s =
-    let text = planText s (replicate (4 * order s) 255) (replicate (order s) 0) in
+    let text = planText s (noPairs s) (noMembers s) in
     cond (ltb 65536 (length s)) tooLong text
 
 -- what a call leaves: the text at the start of the lent bytes, with its length r, and after it what was there
@@ -106,10 +113,3 @@ pub record Reports (s out out′ : List ℕ) (r : ℕ) : Type 0 where
   -- both follow; they are stated so that a caller can lend the first r bytes on
   pub fits : r ≤ length out′
   pub first : r ≡ length (take r out′)
-
--- the bytes that the code begins with, for as many routes as there may be
-unfoldable pub unpairedStart : List ℕ
-unpairedStart = replicate 2048 255
-
-unfoldable pub emptySet : List ℕ
-emptySet = replicate routes 0

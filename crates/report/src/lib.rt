@@ -16,7 +16,8 @@ ghost use Prim.Native.Nat.{min};
 ghost use lib.ListN.{length};
 ghost use Rattle.limits.specs.Limits.{routes};
 ghost use Rattle.report.specs.Put.{room, Appends};
-ghost use Rattle.report.specs.Text.{planText, textOf, Reports, unpairedStart, emptySet};
+ghost use Rattle.report.specs.Start.{unpairedStart, emptySet};
+ghost use Rattle.report.specs.Text.{planText, Reports};
 
 mod lines;
 mod put;
