@@ -1,22 +1,20 @@
 -- Every text has room: how long the lines are. Assumes nothing.
-use Prim.Native.Nat.{ℕ, zero, suc, _+_, _*_, _/_, _%_, _≤_, _<_}
-use mathlib.Core.Path.{_≡_, refl, sym, ap, _∙_}
-use mathlib.Core.Bool.{Bool, true, false, cond, _&&_}
-use mathlib.Core.List.{List, [], _∷_, _++_}
+use Prim.Native.Nat.{ℕ, zero, suc, _+_, _*_, _/_, _≤_, _<_}
+use mathlib.Core.Path.{refl}
+use mathlib.Core.Bool.{_&&_}
+use mathlib.Core.List.{List, _++_}
 use native.Mathlib.Omega.{arith}
 use lib.Dec.{ltb}
 use lib.ListN.{length, length-append}
-use borrow.Author.Tests.{ltb-true, lt-ltb, le-ltb}
-use Rattle.limits.specs.Limits.{routes, none}
+use borrow.Author.Tests.{lt-ltb}
+use Rattle.limits.specs.Limits.{routes}
 use Rattle.limits.specs.declared.Told.{Told}
-use Rattle.theory.specs.Pairing.{unpaired}
 use Rattle.theory.proofs.Count.{cases, tests}
-use Rattle.rows.specs.Sheet.{order, graphOf}
+use Rattle.rows.specs.Sheet.{order}
 use Rattle.sheet.proofs.Read.{order-most}
 use Rattle.witness.specs.Given.{mateOf, setOf}
 use Rattle.witness.specs.Verdict.{toldOf, refuses, improveVerdict}
 use Rattle.witness.proofs.Checker.{passed-improve}
-use Rattle.improve.specs.Choice.{pairingAfter, witnessAfter, sizeAfter, sessionsAfter}
 use Rattle.report.specs.Put.{room}
 use Rattle.report.specs.Text.{digitsIn, digits, spaced, each, refusal, counts, pairLine, pairLines, member, overLine, planText, textOf}
 

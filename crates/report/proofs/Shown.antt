@@ -1,13 +1,13 @@
 -- What an accepted sheet's text shows: no limit means the largest size, and the set after `over` is one that the checker accepts. And the start is never
 -- refused, so that what is refused is the sheet. Assumes nothing.
 use Prim.Native.Nat.{ℕ, _+_, _*_, _-_, _≤_, _<_}
-use mathlib.Core.Path.{_≡_, refl, sym, ap, _∙_, subst}
+use mathlib.Core.Path.{_≡_, refl, sym, _∙_, subst}
 use mathlib.Core.Logic.{inl}
 use mathlib.Core.Bool.{false, _&&_}
 use mathlib.Core.List.{List}
 use native.Mathlib.Omega.{arith}
 use lib.Dec.{ltb}
-use lib.ListN.{length, length-replicate, getD-replicate}
+use lib.ListN.{length-replicate, getD-replicate}
 use Rattle.limits.specs.Limits.{routes, none}
 use Rattle.theory.specs.Largest.{Largest}
 use Rattle.theory.specs.Pairing.{pairs, paired}
@@ -22,9 +22,9 @@ use Rattle.witness.specs.Verdict.{refuses, improveVerdict, checkOf}
 use Rattle.witness.specs.Promise.{Begins}
 use Rattle.witness.specs.declared.Verdict.the-variants.{Accepted}
 use Rattle.witness.proofs.Checker.{passed-improve, begins-accepted}
-use Rattle.improve.specs.Choice.{improved, last, witnessBy, finishedBy, sizeOf, sessionsOf, pairingAfter, witnessAfter, sizeAfter}
+use Rattle.improve.specs.Choice.{last, witnessBy, finishedBy, sizeOf, sessionsOf, pairingAfter, witnessAfter, sizeAfter}
 use Rattle.improve.specs.Promise.{Means}
-use Rattle.report.specs.Text.{noPairs, noMembers}
+use Rattle.report.specs.Text.{noLimit, noPairs, noMembers}
 use Rattle.improve.proofs.Meaning.{means}
 use Rattle.improve.proofs.Calls.{left, left-is, witness-is}
 
@@ -32,10 +32,10 @@ module _ (s p w : List ℕ) (h : refuses (improveVerdict s p w) ≡ false) where
   begun : Begins s p w
   begun = passed-improve s p w _ _ refl refl h
 
-  meant : Means s p (left s p w none) w (witnessBy (last s p none) w) none (sizeOf s (left s p w none) - sizeOf s p) (sizeOf s (left s p w none)) (finishedBy (last s p none)) (sessionsOf s (left s p w none))
-  meant = means s p w begun none
+  meant : Means s p (left s p w noLimit) w (witnessBy (last s p noLimit) w) noLimit (sizeOf s (left s p w noLimit) - sizeOf s p) (sizeOf s (left s p w noLimit)) (finishedBy (last s p noLimit)) (sessionsOf s (left s p w noLimit))
+  meant = means s p w begun noLimit
 
-  -- no pairing has more pairs than there are routes, so no limit is none
+  -- no pairing has more pairs than there are routes, so the largest budget is no limit
   largest-most : meant .m ≤ routes
   unfolding pairs
   largest-most = omega (
@@ -49,17 +49,17 @@ module _ (s p w : List ℕ) (h : refuses (improveVerdict s p w) ≡ false) where
   unfolding sizeOf
   start-most = meant .largest .most (mateOf p) (begun .partners .valid)
 
-  full : sizeOf s (left s p w none) ≡ meant .m
+  full : sizeOf s (left s p w noLimit) ≡ meant .m
   full = omega (arith, meant .reached, largest-most, start-most)
 
   -- the number after `pairs` is the largest size
-  pub size-largest : Largest (graphOf s) (sizeAfter s p w none)
+  pub size-largest : Largest (graphOf s) (sizeAfter s p w noLimit)
   unfolding sizeAfter
-  size-largest = rw (h, left-is s p w none h) (subst (Largest (graphOf s)) (sym full) (meant .largest))
+  size-largest = rw (h, left-is s p w noLimit h) (subst (Largest (graphOf s)) (sym full) (meant .largest))
 
   -- the pairs and the set that are written are accepted by the checker
-  pub set-shows : checkOf s (pairingAfter s p w none) (witnessAfter s p w none) ≡ Accepted
-  set-shows = rw (left-is s p w none h, witness-is s p w none h) (meant .shown (meant .exactly .1 full))
+  pub set-shows : checkOf s (pairingAfter s p w noLimit) (witnessAfter s p w noLimit) ≡ Accepted
+  set-shows = rw (left-is s p w noLimit h, witness-is s p w noLimit h) (meant .shown (meant .exactly .1 full))
 
 -- the start is a pairing of any accepted sheet
 module _ (s : List ℕ) (ok : replyOf s ≡ sheet.Accepted) where

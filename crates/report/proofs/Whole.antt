@@ -1,16 +1,16 @@
 -- The whole text, over plain variables. Assumes nothing.
 use Prim.Native.Nat.{ℕ, zero, suc, _+_, _-_, _*_, _≤_, _<_, min}
 use mathlib.Core.Path.{_≡_, refl, sym, ap, _∙_}
-use mathlib.Core.Bool.{Bool, true, false, cond}
+use mathlib.Core.Bool.{Bool, true, false}
 use mathlib.Core.List.{List, [], _∷_, _++_}
 use native.Mathlib.Omega.{arith}
 use lib.Dec.{ltb}
 use lib.ListN.{length, take, drop, replicate, length-append, length-take, length-replicate}
 use lib.Seq.{take-all, length-take-le}
 use borrow.Author.Tests.{ltb-true, ltb-false, lt-ltb, le-ltb}
-use Rattle.limits.specs.Limits.{routes, none}
+use Rattle.limits.specs.Limits.{routes}
 use Rattle.limits.specs.declared.Told.{Told}
-use Rattle.theory.specs.Pairing.{pairs, unpaired, sessions}
+use Rattle.theory.specs.Pairing.{unpaired, sessions}
 use Rattle.theory.proofs.Count.{cases}
 use Rattle.theory.proofs.Pairing.{pairs-unpaired}
 use Rattle.rows.specs.Sheet.{order, graphOf}
@@ -19,18 +19,17 @@ use Rattle.witness.specs.Given.{mateOf}
 use Rattle.witness.specs.Verdict.{toldOf, refuses, sheetVerdict, improveVerdict}
 use Rattle.witness.specs.Promise.{Begins}
 use Rattle.witness.specs.declared.Verdict.{Verdict}
-use Rattle.witness.specs.declared.Verdict.the-variants.{Accepted}
 use Rattle.witness.proofs.Checker.{passed-sheet, passed-improve, begins-accepted}
 use Rattle.improve.specs.Choice.{sizeOf, sessionsOf}
 use Rattle.improve.specs.Promise.{Means, Improve}
-use Rattle.report.specs.Put.{room, Holds, Appends}
-use Rattle.report.specs.Text.{tooLong, refusal, counts, pairLines, overLine, planText, textOf, noPairs, noMembers, Reports}
+use Rattle.report.specs.Put.{room, Appends}
+use Rattle.report.specs.Text.{noLimit, tooLong, refusal, counts, pairLines, overLine, planText, textOf, noPairs, noMembers, Reports}
 use Rattle.report.specs.Start.{unpairedStart, emptySet}
 use Rattle.report.proofs.Putting.{then, same}
 use Rattle.report.proofs.Room.{text-most}
 
 -- an answer of improve as lines
-module _ (s p p′ w w′ : List ℕ) (r : Verdict) (added size finished ended : ℕ) (I : Improve s p p′ w w′ none r added size finished ended) (t : Bool) (et : t ≡ refuses r) where
+module _ (s p p′ w w′ : List ℕ) (r : Verdict) (added size finished ended : ℕ) (I : Improve s p p′ w w′ noLimit r added size finished ended) (t : Bool) (et : t ≡ refuses r) where
   verdict-is : (b : Bool) → t ≡ b → refuses (improveVerdict s p w) ≡ b
   verdict-is b h = ap refuses (sym (I .is)) ∙ sym et ∙ h
 
@@ -42,7 +41,7 @@ module _ (s p p′ w w′ : List ℕ) (r : Verdict) (added size finished ended :
     begun : Begins s p w
     begun = passed-improve s p w r t (I .is) et h
 
-    meant : Means s p p′ w w′ none added size finished ended
+    meant : Means s p p′ w w′ noLimit added size finished ended
     meant = I .means (I .is ∙ begins-accepted s p w begun)
 
     -- the routes are the pairs twice and the unpaired

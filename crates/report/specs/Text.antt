@@ -5,13 +5,23 @@ use mathlib.Core.Bool.{cond, _&&_}
 use mathlib.Core.List.{List, [], _∷_, _++_}
 use lib.Dec.{ltb}
 use lib.ListN.{length, take, drop, replicate}
-use Rattle.limits.specs.Limits.{none}
 use Rattle.limits.specs.declared.Told.{Told}
 use Rattle.theory.specs.Pairing.{unpaired}
 use Rattle.rows.specs.Sheet.{order, graphOf}
 use Rattle.witness.specs.Given.{mateOf, setOf}
 use Rattle.witness.specs.Verdict.{toldOf, refuses, improveVerdict}
 use Rattle.improve.specs.Choice.{pairingAfter, witnessAfter, sizeAfter, sessionsAfter}
+
+-- the largest budget, which is no limit: a pairing has at most 256 pairs
+abbrev pub noLimit : ℕ
+noLimit = 4294967295
+
+-- what stands before a number, and at the end of a line
+abbrev pub space : ℕ
+space = 32
+
+abbrev pub lineEnd : List ℕ
+lineEnd = 10 ∷ []
 
 -- the last f digits of x, in decimal, without zeros in front
 unfoldable pub digitsIn : ℕ → ℕ → List ℕ
@@ -26,17 +36,18 @@ digits x = digitsIn 20 x
 
 -- the same with a space before it
 unfoldable pub spaced : ℕ → List ℕ
-spaced x = 32 ∷ digits x
+spaced x = space ∷ digits x
 
 -- f 0, f 1, .., f (k - 1), one after the other
 unfoldable pub each : (ℕ → List ℕ) → ℕ → List ℕ
 each f zero = []
 each f (suc k) = each f k ++ f k
 
--- the words, as bytes
+-- "too long", a line of its own
 abbrev pub tooLong : List ℕ
 tooLong = 116 ∷ 111 ∷ 111 ∷ 32 ∷ 108 ∷ 111 ∷ 110 ∷ 103 ∷ 10 ∷ []
 
+-- "refused", "routes", " pairs", " unpaired", " sessions" and "over"
 abbrev pub refusedWord : List ℕ
 refusedWord = 114 ∷ 101 ∷ 102 ∷ 117 ∷ 115 ∷ 101 ∷ 100 ∷ []
 
@@ -57,17 +68,17 @@ overWord = 111 ∷ 118 ∷ 101 ∷ 114 ∷ []
 
 -- "refused", number, A and B
 unfoldable pub refusal : Told → List ℕ
-refusal t = refusedWord ++ spaced (t .no) ++ spaced (t .a) ++ spaced (t .b) ++ 10 ∷ []
+refusal t = refusedWord ++ spaced (t .no) ++ spaced (t .a) ++ spaced (t .b) ++ lineEnd
 
 -- the first line: the four counts
 unfoldable pub counts : ℕ → ℕ → ℕ → ℕ → List ℕ
 counts n size free sessions =
-    (routesWord ++ spaced n) ++ (pairsWord ++ spaced size) ++ (unpairedWord ++ spaced free) ++ (sessionsWord ++ spaced sessions) ++ 10 ∷ []
+    (routesWord ++ spaced n) ++ (pairsWord ++ spaced size) ++ (unpairedWord ++ spaced free) ++ (sessionsWord ++ spaced sessions) ++ lineEnd
 
 -- a line for v and its partner w where v is the lower route of a pair
 unfoldable pub pairLine : ℕ → ℕ → ℕ → List ℕ
 pairLine n v w =
-    let line = digits v ++ spaced w ++ 10 ∷ [] in
+    let line = digits v ++ spaced w ++ lineEnd in
     cond (ltb w n && ltb v w) line []
 
 -- the pairs, one to a line
@@ -82,15 +93,15 @@ member witness v =
 
 -- the last line: "over" and the routes of the set
 unfoldable pub overLine : ℕ → List ℕ → List ℕ
-overLine n witness = overWord ++ each (member witness) n ++ 10 ∷ []
+overLine n witness = overWord ++ each (member witness) n ++ lineEnd
 
 -- what is written from a start p with the witness bytes w: the answer of improve without a limit, refused or not
 unfoldable pub planText : List ℕ → List ℕ → List ℕ → List ℕ
 planText s p w =
     let n = order s in
-    let p′ = pairingAfter s p w none in
+    let p′ = pairingAfter s p w noLimit in
     let told = refusal (toldOf (improveVerdict s p w)) in
-    let lines = counts n (sizeAfter s p w none) (unpaired (graphOf s) (mateOf p′)) (sessionsAfter s p w none) ++ pairLines n p′ ++ overLine n (witnessAfter s p w none) in
+    let lines = counts n (sizeAfter s p w noLimit) (unpaired (graphOf s) (mateOf p′)) (sessionsAfter s p w noLimit) ++ pairLines n p′ ++ overLine n (witnessAfter s p w noLimit) in
     cond (refuses (improveVerdict s p w)) told lines
 
 -- the start: no partner for any route, and no route in the set

@@ -6,7 +6,6 @@ use crate::lines::put_pairs;
 use crate::lines::put_refusal;
 use crate::put::put_word;
 use improve::improve;
-use limits::NONE;
 use limits::ROUTES;
 use rows::order;
 use witness::refuses;
@@ -27,6 +26,9 @@ pub use put::ROOM;
 // The most bytes that are looked at.
 const INPUT: usize = 65536;
 
+// The largest budget, which is no limit.
+const NO_LIMIT: u32 = 4294967295;
+
 // Room for the partners of all routes, four bytes each.
 const PARTNERS: usize = 4 * ROUTES;
 
@@ -34,7 +36,7 @@ const PARTNERS: usize = 4 * ROUTES;
 fn put_plan(out: &mut [u8; ROOM], s: &[u8], pairing: &mut [u8], witness: &mut [u8]) -> usize
     ensures { λ r. ⌜ Appends (now (out .entry)) 0 (now (out .exit)) r (planText (now (s .entry)) (now (pairing .entry)) (now (witness .entry))) ⌝ }
 {
-    let made = improve(s, pairing, witness, NONE);
+    let made = improve(s, pairing, witness, NO_LIMIT);
     let verdict = made.verdict;
     if refuses(verdict) {
         return put_refusal(out, 0, tell(verdict));

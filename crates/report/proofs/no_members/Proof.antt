@@ -1,7 +1,6 @@
 -- `no_members` meets its contract. Assumes nothing.
 use mathlib.Core.Path.{refl}
 use Rattle.report.specs.Start.{emptySet}
-use borrow.Author.Needs.{needs}
 use Rattle.report.proofs.no_members.Statement.{statement}
 use Rattle.report.proofs.no_members.Tie as tie
 

@@ -1,7 +1,6 @@
 -- `no_pairs` meets its contract. Assumes nothing.
 use mathlib.Core.Path.{refl}
 use Rattle.report.specs.Start.{unpairedStart}
-use borrow.Author.Needs.{needs}
 use Rattle.report.proofs.no_pairs.Statement.{statement}
 use Rattle.report.proofs.no_pairs.Tie as tie
 
