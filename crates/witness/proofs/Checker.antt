@@ -65,6 +65,10 @@ length-iff a b r h = (
   λ e. rw (eq-eqb a b e),
 )
 
+-- what a check that did not refuse has shown
+pub passed-sheet : (s : List ℕ) (r : Verdict) (b : Bool) → r ≡ sheetVerdict s → b ≡ refuses r → b ≡ false → sheet.replyOf s ≡ reply.Accepted
+passed-sheet s r b e f t = sheet-iff s .0 (sym e ∙ accepted-fine r (sym f ∙ t))
+
 -- the least below n that passes is n exactly where none passes
 least-iff : (n : ℕ) (P : ℕ → Bool) (r : Verdict) → refuses r ≡ true → (cond (ltb (least n P) n) r Accepted ≡ Accepted) ↔ ((v : ℕ) → v < n → P v ≡ false)
 least-iff n P r h = (
