@@ -12,7 +12,7 @@ use Rattle.theory.specs.Parts.{run}
 use Rattle.theory.proofs.Count.{cases}
 use Rattle.theory.proofs.Parts.{run-length, run-at}
 use Rattle.words.specs.Words.{putWord, over}
-use Rattle.pairing.proofs.Sound.{same-default}
+use Rattle.refusals.proofs.Sound.{same-default}
 use Rattle.drive.specs.State.{putWords}
 
 -- the first k places of a table hold the first k values of f

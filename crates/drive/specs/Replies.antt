@@ -7,8 +7,8 @@ use lib.Dec.{eqb}
 use Rattle.limits.specs.Limits.{none}
 use Rattle.limits.specs.Answer.{told}
 use Rattle.theory.specs.Count.{bit}
-use Rattle.pairing.specs.Partners.{idAt}
-use Rattle.pairing.specs.Reply.{toldOf}
+use Rattle.refusals.specs.Partners.{idAt}
+use Rattle.refusals.specs.Reply.{toldOf}
 use Rattle.pairing.specs.Answers.{orderAnswer, hasNodeAnswer, pairAnswer, edgesAnswer, augmentAnswer, mateAnswer}
 use Rattle.pairing.specs.declared.Pairing.{Pairing}
 use Rattle.pairing.specs.declared.Next.{Next}

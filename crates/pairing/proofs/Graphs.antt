@@ -14,8 +14,8 @@ use Rattle.theory.specs.Count.{count}
 use Rattle.theory.specs.Pairing.{Pairing, pairs, unpaired, paired as paired-in}
 use Rattle.theory.proofs.Pairing.{mate-moves}
 use Rattle.theory.proofs.Count.{cases, same-test, count-cong, count-not}
-use Rattle.pairing.specs.Partners.{mateOf, isPaired, countOf, Sound, fresh, isLower, lowers, paired, idAt, Pairable, after, augmented}
-use Rattle.pairing.proofs.Sound.{mate-id, mate-back, fresh-mate, paired-sound, paired-cases}
+use Rattle.refusals.specs.Partners.{mateOf, isPaired, countOf, Sound, fresh, isLower, lowers, paired, idAt, Pairable, after, augmented}
+use Rattle.refusals.proofs.Sound.{mate-id, mate-back, fresh-mate, paired-sound, paired-cases}
 use Rattle.pairing.proofs.Pairs.{rising-length, order-twice}
 use Rattle.pairing.proofs.Paths.{after-sound}
 

@@ -8,14 +8,14 @@ use borrow.Author.Tests.{ltb-true, ltb-false, le-leb, lt-leb}
 use Rattle.limits.specs.Limits.{routes}
 use Rattle.theory.specs.Count.{least}
 use Rattle.theory.proofs.Count.{cases}
-use Rattle.pairing.specs.Partners.{countOf, Sound, Pairable, fresh, paired, augmented}
-use Rattle.pairing.specs.Reply.{pairingReply, idReply, pairReply, unknown, selfPair, pathReply}
+use Rattle.refusals.specs.Partners.{countOf, Sound, Pairable, fresh, paired, augmented}
+use Rattle.refusals.specs.Reply.{pairingReply, idReply, pairReply, unknown, selfPair, pathReply}
+use Rattle.refusals.specs.declared.Refusal.the-variants.{Accepted}
+use Rattle.refusals.proofs.Sound.{fresh-sound, fresh-count, paired-sound}
+use Rattle.refusals.proofs.Replies.{sound-accepted}
 use Rattle.pairing.specs.Answers.{pairAnswer, augmentAnswer}
 use Rattle.pairing.specs.declared.Pairing.{Pairing}
-use Rattle.pairing.specs.declared.Refusal.the-variants.{Accepted}
-use Rattle.pairing.proofs.Sound.{fresh-sound, fresh-count, paired-sound}
 use Rattle.pairing.proofs.Paths.{augmented-sound, augmented-cons, augmented-empty}
-use Rattle.pairing.proofs.Replies.{sound-accepted}
 
 pub fresh-accepted : pairingReply fresh 0 ≡ Accepted
 fresh-accepted = rw fresh-count at (sound-accepted fresh fresh-sound)

@@ -12,9 +12,9 @@ use borrow.Author.Tests.{ltb-true, ltb-false}
 use Rattle.limits.specs.Limits.{routes, none}
 use Rattle.theory.specs.Count.{count, bit, but}
 use Rattle.theory.proofs.Count.{cases, tests, count-split, count-inj, count-le, count-step}
-use Rattle.pairing.specs.Partners.{mateOf, isPaired, countOf, Sound, isLower, rising, lowers}
+use Rattle.refusals.specs.Partners.{mateOf, isPaired, countOf, Sound, isLower, rising, lowers}
+use Rattle.refusals.proofs.Sound.{mate-back, mate-apart}
 use Rattle.pairing.specs.Answers.{padded}
-use Rattle.pairing.proofs.Sound.{mate-back, mate-apart}
 
 pub rising-length : (n : ℕ) (P : ℕ → Bool) → length (rising n P) ≡ count n P
 unfolding rising count

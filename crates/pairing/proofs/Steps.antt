@@ -1,56 +1,27 @@
--- What the proofs of the functions cite: a read, the count after a pair, and the two ways out of an operation. Assumes nothing.
+-- What the proofs of the functions cite: the count after a pair, the two ways out of an operation, and the two loops, part of the way. Assumes nothing.
 use Prim.Native.Nat.{ℕ, _+_, _*_, _-_, _/_, _≤_, _<_}
 use mathlib.Core.Path.{_≡_, refl, sym, ap, ap₂, _∙_}
 use mathlib.Core.Logic.{_≢_}
-use mathlib.Core.Bool.{Bool, true, false, cond}
+use mathlib.Core.Bool.{true, false, cond}
 use mathlib.Core.List.{List, map}
 use native.Mathlib.Omega.{arith}
 use lib.ListN.{length, set}
 use borrow.Author.Tests.{lt-ltb, le-ltb}
-use Rattle.limits.specs.Limits.{routes, none}
-use Rattle.theory.specs.Count.{bit, count, least}
-use Rattle.theory.proofs.Count.{count-le, count-step}
-use Rattle.pairing.specs.Partners.{mateOf, isPaired, countOf, Sound, freed, paired, idAt, after, augmented, isLower, rising, lowers}
-use Rattle.pairing.specs.Reply.{refuses, first, pairingReply, pairReply, pathReply}
+use Rattle.limits.specs.Limits.{routes}
+use Rattle.theory.specs.Count.{bit}
+use Rattle.theory.proofs.Count.{count-le}
+use Rattle.refusals.specs.Partners.{mateOf, isPaired, countOf, Sound, freed, paired, idAt, after, augmented, isLower, rising, lowers}
+use Rattle.refusals.specs.Reply.{refuses, first, pairingReply, pairReply, pathReply}
+use Rattle.refusals.specs.declared.Refusal.{Refusal}
+use Rattle.refusals.specs.declared.Refusal.the-variants.{Accepted}
+use Rattle.refusals.proofs.Replies.{not-refused, first-accepted, pairing-accepted, pair-accepted, path-accepted}
+use Rattle.refusals.proofs.Sound.{paired-count, freed-count, freed-sound}
 use Rattle.pairing.specs.Answers.{padded, edgesIn}
-use Rattle.pairing.specs.declared.Refusal.{Refusal}
-use Rattle.pairing.specs.declared.Refusal.the-variants.{Accepted}
-use Rattle.pairing.proofs.Replies.{not-refused, first-accepted, pairing-accepted, pair-accepted, path-accepted}
 use Rattle.pairing.proofs.Paths.{after-next, after-sound}
-use Rattle.pairing.proofs.Sound.{paired-count, freed-count, freed-sound}
 
 pub count-fits : (ps : List ℕ) → countOf ps ≤ routes
 unfolding countOf
 count-fits ps = count-le routes (isPaired ps)
-
--- ---- freeing an id, whose partner m was read
-
-module _ (ps : List ℕ) (i m : ℕ) (e : m ≡ mateOf ps i) where
-  pub freed-no : routes ≤ m → (ps ≡ freed ps i) × (0 ≡ 2 * bit (isPaired ps i))
-  unfolding freed
-  freed-no h = rw (← e, le-ltb m routes h) (refl, refl)
-
-  pub freed-yes : m < routes → (set (set ps m none) i none ≡ freed ps i) × (2 ≡ 2 * bit (isPaired ps i))
-  unfolding freed
-  freed-yes h = rw (← e, lt-ltb m routes h) (refl, refl)
-
--- ---- a loop over the ids, part of the way
-
-bit-most : (b : Bool) → bit b ≤ 1
-bit-most true = omega arith
-bit-most false = omega arith
-
--- n of the ids below i pass, and r is 1 where i does
-module _ (P : ℕ → Bool) (i n r : ℕ) (e : n ≡ count i P) (f : r ≡ bit (P i)) where
-  pub counted-next : n + r ≡ count (i + 1) P
-  counted-next = omega (arith, count-step P i)
-
-  pub counted-fits : n + r ≤ i + 1
-  counted-fits = omega (arith, count-le i P, bit-most (P i))
-
--- nothing below k passes, and k is where the search ends
-pub least-stop : (P : ℕ → Bool) (k n : ℕ) → k ≤ n → n ≤ k → least k P ≡ k → k ≡ least n P
-least-stop P k n h l p = let e : k ≡ n = omega arith in rw e (sym (rw e at p))
 
 -- the count after a and b were made partners: r ids were freed with a, and q with b
 module _ (ps qs : List ℕ) (n a b r q : ℕ) (s : Sound ps) (e : n ≡ countOf ps) (la : a < routes) (lb : b < routes) (ne : a ≢ b)

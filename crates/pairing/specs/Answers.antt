@@ -4,10 +4,10 @@ use mathlib.Core.Bool.{false, cond}
 use mathlib.Core.List.{List, [], map, _++_}
 use lib.ListN.{length, replicate}
 use Rattle.limits.specs.Limits.{routes, none}
-use Rattle.pairing.specs.Partners.{mateOf, isPaired, countOf, paired, augmented, lowers}
-use Rattle.pairing.specs.Reply.{refuses, first, pairingReply, idReply, pairReply, pathReply, mateReply}
-use Rattle.pairing.specs.declared.Refusal.{Refusal}
-use Rattle.pairing.specs.declared.Refusal.the-variants.{Accepted}
+use Rattle.refusals.specs.Partners.{mateOf, isPaired, countOf, paired, augmented, lowers}
+use Rattle.refusals.specs.Reply.{refuses, first, pairingReply, idReply, pairReply, pathReply, mateReply}
+use Rattle.refusals.specs.declared.Refusal.{Refusal}
+use Rattle.refusals.specs.declared.Refusal.the-variants.{Accepted}
 use Rattle.pairing.specs.declared.Pairing.{Pairing}
 use Rattle.pairing.specs.declared.Next.{Next}
 use Rattle.pairing.specs.declared.Order.{Order}

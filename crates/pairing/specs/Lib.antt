@@ -1,5 +1,2 @@
--- All three are to be believed: Partners (who is whose partner, pairing and augmenting, over the list of partners), Reply (the refusals and their
--- order), Answers (what each operation answers).
-pub mod Partners
-pub mod Reply
+-- To be believed, with Partners and Reply of the crate refusals: Answers (what each operation answers).
 pub mod Answers

@@ -1,57 +1,36 @@
 // A pairing by itself: for each id its partner, and how many ids have one. It is one value of fixed size. Each operation
 // takes the pairing by value and checks it before all else; `pair` and `augment` hand back the next one, or the same one
-// where they are refused, and the others, which take a copy as well, answer what was asked. `partners` has the table of
-// partners, `checks` the refusals in the order of their numbers.
-use crate::checks::first;
-use crate::checks::id_at;
-use crate::checks::id_refusal;
-use crate::checks::mate_refusal;
-use crate::checks::pair_refusal;
-use crate::checks::pairing_refusal;
-use crate::checks::path_refusal;
-use crate::checks::refuses;
-use crate::partners::IDS;
-use crate::partners::free;
-use crate::partners::is_paired;
-use crate::partners::partner_of;
+// where they are refused, and the others, which take a copy as well, answer what was asked. Below stands the crate
+// `refusals`: the table of partners, and the refusals in the order of their numbers.
 use limits::NONE;
 use limits::ROUTES;
-use limits::Told;
+pub use refusals::Refusal;
+use refusals::checks::first;
+use refusals::checks::id_at;
+use refusals::checks::id_refusal;
+use refusals::checks::mate_refusal;
+use refusals::checks::pair_refusal;
+use refusals::checks::pairing_refusal;
+use refusals::checks::path_refusal;
+use refusals::checks::refuses;
+use refusals::partners::IDS;
+use refusals::partners::free;
+use refusals::partners::is_paired;
+use refusals::partners::partner_of;
+pub use refusals::tell;
 ghost use mathlib.Core.Path.{_≡_};
 ghost use mathlib.Core.Logic.{_≢_};
 ghost use mathlib.Core.Bool.{true, cond};
 ghost use Prim.Native.Nat.{ℕ, _+_, _/_, _<_};
 ghost use lib.ListN.{getD, set};
 ghost use Rattle.limits.specs.Limits.{routes, none};
-ghost use Rattle.limits.specs.Answer.{told};
-ghost use Rattle.pairing.specs.Partners.{Sound, mateOf, countOf, fresh, paired, augmented, isLower};
-ghost use Rattle.pairing.specs.Reply.{toldOf, pathReply};
-ghost use Rattle.pairing.specs.Answers.{kept, pairAnswer, augmentAnswer, orderAnswer, hasNodeAnswer, mateAnswer, edgesIn, edgesAnswer};
 ghost use Rattle.theory.specs.Count.{bit};
-
-mod checks;
-mod partners;
+ghost use Rattle.refusals.specs.Partners.{Sound, mateOf, countOf, fresh, paired, augmented, isLower};
+ghost use Rattle.refusals.specs.Reply.{pathReply};
+ghost use Rattle.pairing.specs.Answers.{kept, pairAnswer, augmentAnswer, orderAnswer, hasNodeAnswer, mateAnswer, edgesIn, edgesAnswer};
 
 // The most pairs that there can be.
 pub const HALF: usize = ROUTES / 2;
-
-// Why an operation is refused.
-pub enum Refusal {
-    // nothing to refuse
-    Accepted,
-    // 10: a partner that is neither none nor below the limit, is the id itself, or does not name the id back
-    BadPartner { id: u32, value: u32 },
-    // 10: a kept count that is not the number of paired ids
-    WrongCount { count: u32 },
-    // 13: a path with an odd count
-    OddPath { count: usize },
-    // 14: an id that is not below the limit
-    NoSuchId { position: usize, id: u32 },
-    // 15: an id paired with itself; the position is that of the pair's first id
-    SelfPair { position: usize, id: u32 },
-    // 16: the partner of an unpaired id
-    Unpaired { id: u32 },
-}
 
 // For each id its partner, or none, and how many ids have a partner.
 pub struct Pairing {
@@ -89,28 +68,6 @@ pub struct Edges {
     pub count: usize,
     pub lower: [u32; HALF],
     pub upper: [u32; HALF],
-}
-
-// The answer with this number and these details.
-fn answer(no: u32, a: u64, b: u64) -> Told
-    ensures { λ r. ⌜ r ≡ told no a b ⌝ }
-{
-    Told { no, a, b }
-}
-
-// Number, A and B of a reply.
-pub fn tell(r: Refusal) -> Told
-    ensures { λ t. ⌜ t ≡ toldOf r ⌝ }
-{
-    match r {
-        Refusal::Accepted => answer(0, 0, 0),
-        Refusal::BadPartner { id, value } => answer(10, id as u64, value as u64),
-        Refusal::WrongCount { count } => answer(10, ROUTES as u64, count as u64),
-        Refusal::OddPath { count } => answer(13, count as u64, 0),
-        Refusal::NoSuchId { position, id } => answer(14, position as u64, id as u64),
-        Refusal::SelfPair { position, id } => answer(15, position as u64, id as u64),
-        Refusal::Unpaired { id } => answer(16, id as u64, 0),
-    }
 }
 
 // a and b made partners, and their old partners free; the answer is how many ids are paired then. The count before it and

@@ -1,7 +1,7 @@
 -- `join` meets its contract: the count falls by what was freed and rises by two. Assumes nothing.
 use mathlib.Core.Path.{refl}
 use native.Mathlib.Omega.{arith}
-use Rattle.pairing.specs.Partners.{paired}
+use Rattle.refusals.specs.Partners.{paired}
 use Rattle.pairing.proofs.Steps.{fewer-first, fewer-second, two-joined, joined-fits}
 use borrow.Author.Needs.{needs}
 use Rattle.pairing.proofs.join.Statement.{statement}

@@ -4,7 +4,7 @@ use mathlib.Core.Path.{_≡_, refl, _∙_}
 use Rattle.limits.specs.Limits.{routes}
 use mathlib.Core.List.{map}
 use lib.ListN.{length}
-use Rattle.pairing.specs.Partners.{mateOf, isLower, rising}
+use Rattle.refusals.specs.Partners.{mateOf, isLower, rising}
 use Rattle.pairing.specs.Answers.{padded}
 use Rattle.pairing.proofs.Pairs.{lower-room, listing-next}
 use Rattle.pairing.proofs.Steps.{list-end}
