@@ -2,7 +2,7 @@
 use Prim.Native.Nat.{ℕ, _*_, _≤_, _<_}
 use mathlib.Core.Path.{_≡_}
 use mathlib.Core.Logic.{_↔_, _⊎_}
-use mathlib.Core.Bool.{Bool}
+use mathlib.Core.Bool.{Bool, true, false}
 use mathlib.Core.List.{List}
 use lib.IntN.{ℤ, pos, subℕ}
 use lib.ListN.{length, getD}
@@ -16,7 +16,7 @@ use Rattle.rows.specs.Sheet.{order, graphOf}
 use Rattle.sheet.specs.Reply.{replyOf}
 use Rattle.sheet.specs.declared.Reply.the-variants as sheet
 use Rattle.witness.specs.Given.{mateOf, setOf}
-use Rattle.witness.specs.Verdict.{checkOf, surplusVerdict, surplusOf, partsVerdict, oddOf, membersOf, partsBytes}
+use Rattle.witness.specs.Verdict.{refuses, checkOf, surplusVerdict, surplusOf, partsVerdict, oddOf, membersOf, partsBytes}
 use Rattle.witness.specs.declared.Verdict.{Verdict}
 use Rattle.witness.specs.declared.Verdict.the-variants as verdict
 
@@ -60,11 +60,13 @@ pub record Checked (s pairing witness : List ℕ) (r : Verdict) : Type 0 where
   pub exactly : (r ≡ verdict.Accepted) ↔ Shown s pairing witness
   pub maximum : r ≡ verdict.Accepted → Maximum (graphOf s) (mateOf pairing)
 
--- the answer of the surplus: the verdict, and the surplus as a signed number and as the difference of two small counts
+-- the answer of the surplus: the verdict, and the surplus as a signed number and as the difference of two small counts, which are odd parts and members
 pub record Surplus (s witness : List ℕ) (r : Verdict) (odd size : ℕ) (z : ℤ) : Type 0 where
   pub is : r ≡ surplusVerdict s witness
   pub surplus : z ≡ surplusOf s witness
   pub counts : subℕ odd size ≡ surplusOf s witness
+  pub weighed : refuses r ≡ false → Weighs (graphOf s) (setOf witness) odd size
+  pub unweighed : refuses r ≡ true → (odd ≡ 0) × (size ≡ 0)
   pub odd-small : odd ≤ routes
   pub size-small : size ≤ routes
 

@@ -1,8 +1,9 @@
 -- `weigh` meets its contract. Assumes nothing.
-use mathlib.Core.Path.{sym, _∙_}
+use mathlib.Core.Path.{refl, sym, _∙_}
 use native.Mathlib.Omega.{arith}
 use denote.Ref.{now}
 use mir.Facts.{toZ-ofZ}
+use Rattle.theory.proofs.Count.{clash}
 use Rattle.witness.proofs.Signed.{small-fits}
 use Rattle.witness.proofs.Checker.{passed-surplus}
 use Rattle.witness.proofs.Verdicts.{surplus-refused, surplus-given}
@@ -16,7 +17,7 @@ returns c =
     let d = c .before in
     let v = d .before .surplus-verdict .ensures in
     let z = surplus-refused _ _ _ _ v (d .refuses .ensures) (c .if1 .taken) in
-    record { is = v; surplus = z; counts = z; odd-small = omega arith; size-small = omega arith }
+    record { is = v; surplus = z; counts = z; weighed = λ k. clash _ (sym (d .refuses .ensures) ∙ c .if1 .taken) k; unweighed = λ _. (refl, refl); odd-small = omega arith; size-small = omega arith }
 
 weight-of-requires : tie.Need-weight-of-requires
 weight-of-requires c κs = passed-surplus _ _ _ _ (c .before .before .surplus-verdict .ensures) (c .before .refuses .ensures) (c .if1 .left)
@@ -38,7 +39,7 @@ returns-2 c =
     let o = odd-most (now (a .s)) (now (a .witness)) (p .0) _ _ w in
     let m = size-most (now (a .s)) (now (a .witness)) (p .0) _ _ w in
     let z = surplus-given _ _ _ _ v (d .before .refuses .ensures) _ (d .if1 .left) (surplus-by (now (a .s)) (now (a .witness)) (p .0) _ _ w) in
-    record { is = v; surplus = toZ-ofZ (rw (c .surplus-of .ensures) (small-fits _ _ o m)) ∙ c .surplus-of .ensures ∙ z; counts = z; odd-small = o; size-small = m }
+    record { is = v; surplus = toZ-ofZ (rw (c .surplus-of .ensures) (small-fits _ _ o m)) ∙ c .surplus-of .ensures ∙ z; counts = z; weighed = λ _. w; unweighed = λ k. clash _ k (sym (d .before .refuses .ensures) ∙ d .if1 .left); odd-small = o; size-small = m }
 
 pub weigh-spec : {M : Type 1} → statement M
 weigh-spec =
