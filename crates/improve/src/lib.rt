@@ -1,5 +1,5 @@
-// At most so many pairs more, from the pairing that is lent. The work is done in local tables: the lent bytes are read
-// once, and written in one last step. A refusal leaves them alone.
+// At most so many pairs more, from the pairing that is lent. The work is done in local tables, and the lent bytes are
+// written in one last step, behind which only the size is read from them. A refusal leaves them alone.
 use crate::lent::load;
 use crate::lent::pairs_of;
 use crate::lent::save;

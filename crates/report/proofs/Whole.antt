@@ -73,7 +73,7 @@ take-replicate (suc k) (suc n) a h = ap (λ (l : List ℕ). a ∷ l) (take-repli
 
 start-is : (m : ℕ) → m ≤ routes → take (4 * m) unpairedStart ≡ replicate (4 * m) 255
 unfolding unpairedStart
-start-is m h = take-replicate (4 * m) 2048 255 (omega arith)
+start-is m h = take-replicate (4 * m) (4 * routes) 255 (omega arith)
 
 set-is : (m : ℕ) → m ≤ routes → take m emptySet ≡ replicate m 0
 unfolding emptySet
