@@ -4,9 +4,11 @@ use crate::reading::Read;
 use crate::runs::Beside;
 use crate::{ours, text, Rows};
 use sheets::random::Random;
+use std::thread;
 use std::time::Instant;
 
 /// How much is compared.
+#[derive(Clone, Copy)]
 pub struct Plan {
     pub seed: u64,
     /// Random rows for the reader.
@@ -35,30 +37,30 @@ impl Plan {
         Plan { seed, rows: 5_000_000, graphs: 120_000, even: 60_000, most, every_start: 6, from_nothing: 7 }
     }
 
-    /// All of it, to the first difference.
-    pub fn run(&self) -> Result<(), String> {
-        self.reading()?;
-        self.all_from_every_start()?;
-        self.all_from_nothing()?;
-        self.even()?;
-        self.general()
+    /// All of it, to the first difference: each part in a thread of its own, and what they counted in this order.
+    pub fn run(self) -> Result<(), String> {
+        let begun = Instant::now();
+        let parts: [fn(&Plan) -> Result<String, String>; 5] =
+            [Plan::reading, Plan::all_from_every_start, Plan::all_from_nothing, Plan::even, Plan::general];
+        for part in parts.map(|part| thread::spawn(move || part(&self))) {
+            print!("{}", part.join().expect("a part of the comparison")?);
+        }
+        println!("{:.1?} in all", begun.elapsed());
+        Ok(())
     }
 
-    fn reading(&self) -> Result<(), String> {
-        let begun = Instant::now();
+    fn reading(&self) -> Result<String, String> {
         let (mut random, mut read) = (Random::new(self.seed), Read::default());
         read.small()?;
         let small: u64 = read.0.iter().sum();
         for _ in 0..self.rows {
             read.random(&mut random)?;
         }
-        println!("rows accepted or refused: {small} small ones, {} random ones from seed {}", self.rows, self.seed);
-        println!("  by number 0 to 7: {:?}", read.0);
-        println!("  no difference, {:.1?}", begun.elapsed());
-        Ok(())
+        let what = format!("rows accepted or refused: {small} small ones, {} random ones", self.rows);
+        Ok(format!("{what} from seed {}\n  by number 0 to 7: {:?}\n  no difference\n", self.seed, read.0))
     }
 
-    fn all_from_every_start(&self) -> Result<(), String> {
+    fn all_from_every_start(&self) -> Result<String, String> {
         let what = format!("all graphs of up to {} routes from every start", self.every_start);
         beside(&what, |beside| {
             let mut graphs = (0..=self.every_start).flat_map(every_graph);
@@ -66,7 +68,7 @@ impl Plan {
         })
     }
 
-    fn all_from_nothing(&self) -> Result<(), String> {
+    fn all_from_nothing(&self) -> Result<String, String> {
         let what = format!("all graphs of up to {} routes from nothing", self.from_nothing);
         beside(&what, |beside| {
             let mut graphs = (0..=self.from_nothing).flat_map(every_graph);
@@ -77,7 +79,7 @@ impl Plan {
         })
     }
 
-    fn even(&self) -> Result<(), String> {
+    fn even(&self) -> Result<String, String> {
         let what = format!("no odd cycle, up to {:?} routes, seed {}", self.most, self.seed);
         let mut random = Random::new(self.seed);
         beside(&what, |beside| {
@@ -91,7 +93,7 @@ impl Plan {
         })
     }
 
-    fn general(&self) -> Result<(), String> {
+    fn general(&self) -> Result<String, String> {
         let what = format!("general graphs, up to {:?} routes, seed {}", self.most, self.seed);
         let mut random = Random::new(self.seed);
         beside(&what, |beside| {
@@ -118,13 +120,10 @@ fn sizes(graphs: usize, most: &[usize]) -> impl Iterator<Item = usize> + '_ {
 }
 
 /// A comparison, and what it counted.
-fn beside(what: &str, compare: impl FnOnce(&mut Beside) -> Result<(), String>) -> Result<(), String> {
-    let begun = Instant::now();
+fn beside(what: &str, compare: impl FnOnce(&mut Beside) -> Result<(), String>) -> Result<String, String> {
     let mut beside = Beside::default();
     compare(&mut beside)?;
-    print!("{what}: {}", beside.seen);
-    println!("  no difference, {:.1?}", begun.elapsed());
-    Ok(())
+    Ok(format!("{what}: {}  no difference\n", beside.seen))
 }
 
 /// The most pairs by trying all, beside those that improvement reaches from nothing.
