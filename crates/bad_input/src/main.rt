@@ -1,29 +1,27 @@
 // Hands sheets to the reader, most of them wrong in one way, and prints a line for each: what the sheet is, then the
-// reply's number, A and B. A sheet is a list of numbers and a length in bytes, so that it can end anywhere; the largest
-// are made by loops. The file `stdout` beside `src/` holds what is to be printed. It comes from a plain reading of the
+// reply's number, A and B. A sheet is a list of numbers and a length in bytes, so that it can end anywhere; `samples` makes
+// the largest by loops. The file `stdout` beside `src/` holds what is to be printed. It comes from a plain reading of the
 // format, written by itself in rust/sheets, and not from a run of this program.
-use libc::STDOUT_FILENO;
 use limits::NONE;
-use limits::ROUTES;
+use printing::field;
+use printing::number;
+use printing::write;
+use samples::LARGE;
+use samples::SMALL;
+use samples::front;
+use samples::put_all;
+use samples::put_entry;
+use samples::put_ten;
+use samples::put_words;
+use samples::sheet_length;
+use samples::small;
 use words::put_word;
 use words::word_at;
 
-// Room for forty numbers.
-const SMALL: usize = 160;
-
-// Room for the largest sheet that is accepted.
-const LARGE: usize = 8 + 4 * ROUTES * ROUTES;
-
-// Writes a number with a space before it.
-fn number(x: u64) {
-    io::write_all(STDOUT_FILENO, b" ");
-    io::print_decimal(STDOUT_FILENO, x);
-}
-
 // Writes the reply to a sheet.
 fn answer(s: &[u8]) {
-    let told = sheet::tell(sheet::check(s));
-    io::write_all(STDOUT_FILENO, b":");
+    let told = replies::tell(sheet::check(s));
+    write(b":");
     number(told.no as u64);
     number(told.a);
     number(told.b);
@@ -31,38 +29,9 @@ fn answer(s: &[u8]) {
 
 // Writes the line of a sheet.
 fn line(label: &[u8], s: &[u8]) {
-    io::write_all(STDOUT_FILENO, label);
+    write(label);
     answer(s);
-    io::write_all(STDOUT_FILENO, b"\n");
-}
-
-// The first bytes of a slice, all of them where there are fewer.
-fn front(s: &[u8], bytes: usize) -> &[u8] {
-    let z = 0;
-    if s.len() < bytes {
-        return s;
-    }
-    &s[z..bytes]
-}
-
-// The same of a small sheet.
-fn small(s: &[u8; SMALL], bytes: usize) -> &[u8] {
-    front(s, bytes)
-}
-
-// The words put one after the other, from number `at` on; the other bytes stay as they are.
-fn put_words(s: &mut [u8; SMALL], at: usize, words: &[u32]) {
-    if SMALL < at {
-        return;
-    }
-    let mut k = 0;
-    while k < words.len() {
-        if SMALL < k {
-            return;
-        }
-        put_word(s, at + k, words[k]);
-        k += 1;
-    }
+    write(b"\n");
 }
 
 // The line of the sheet that has these words, ending after so many bytes.
@@ -78,95 +47,35 @@ fn lengths(label: &[u8], words: &[u32]) {
     put_words(&mut s, 0, words);
     let mut bytes = 0;
     while bytes <= 12 {
-        io::write_all(STDOUT_FILENO, label);
+        write(label);
         number(bytes as u64);
         line(b" bytes", small(&s, bytes));
         bytes += 1;
     }
 }
 
-// The length of a sheet of n routes and so many entries.
-fn length(n: u32, total: u32) -> usize {
-    8 + 4 * (n as usize) + 4 * (total as usize)
-}
-
-// The word at which entry number e stands in a sheet of n routes.
-fn slot(n: u32, e: u32) -> usize {
-    n as usize + 2 + e as usize
-}
-
-// Entry number e of the sheet in which all routes are joined, m to a row: the routes rising, without the row's own.
-fn other(e: u32, m: u32) -> u32 {
-    if m == 0 {
-        return 0;
-    }
-    let row = e / m;
-    let place = e % m;
-    if place < row {
-        return place;
-    }
-    place + 1
-}
-
-// n and the contents of the sheet in which all of n routes are joined.
-fn put_contents(s: &mut [u8; LARGE], n: u32) {
-    if n == 0 {
-        return;
-    }
-    if ROUTES < n as usize {
-        return;
-    }
-    put_word(s, 0, n);
-    let mut start = 0;
-    let mut k = 0;
-    while k <= n {
-        put_word(s, k as usize + 1, start);
-        start += n - 1;
-        k += 1;
-    }
-}
-
-// Its entries, of which there are so many.
-fn put_entries(s: &mut [u8; LARGE], n: u32, total: u32) {
-    if n == 0 {
-        return;
-    }
-    let mut e = 0;
-    while e < total {
-        put_word(s, slot(n, e), other(e, n - 1));
-        e += 1;
-    }
-}
-
-// The sheet in which all of n routes are joined, by so many entries.
-fn put_all(s: &mut [u8; LARGE], n: u32, total: u32) {
-    put_contents(s, n);
-    put_entries(s, n, total);
-}
-
-// The line of that sheet, with the entry total that the sheet itself says.
+// The line of the sheet in which all of n routes are joined, of so many entries, with the total that the sheet itself says.
 fn all_of(label: &[u8], s: &mut [u8; LARGE], n: u32, total: u32) {
-    put_all(s, n, total);
-    io::write_all(STDOUT_FILENO, label);
-    answer(front(s, length(n, total)));
-    io::write_all(STDOUT_FILENO, b" entries");
-    number(word_at(s, n as usize + 1) as u64);
-    io::write_all(STDOUT_FILENO, b"\n");
+    put_all(s, n);
+    write(label);
+    answer(front(s, sheet_length(n, total)));
+    field(b" entries ", word_at(s, n as usize + 1) as u64);
+    write(b"\n");
 }
 
 // All of 257 joined, with another route as entry number e.
 fn replaced(label: &[u8], s: &mut [u8; LARGE], e: u32, route: u32) {
-    put_all(s, 257, 65792);
-    put_word(s, slot(257, e), route);
-    line(label, front(s, length(257, 65792)));
+    put_all(s, 257);
+    put_entry(s, 257, e, route);
+    line(label, front(s, sheet_length(257, 65792)));
 }
 
 // All of 257 joined, with one entry more at the end of the last row, entry number 65,792.
 fn added(label: &[u8], s: &mut [u8; LARGE], route: u32) {
-    put_all(s, 257, 65792);
+    put_all(s, 257);
     put_word(s, 258, 65793);
-    put_word(s, slot(257, 65792), route);
-    line(label, front(s, length(257, 65793)));
+    put_entry(s, 257, 65792, route);
+    line(label, front(s, sheet_length(257, 65793)));
 }
 
 // Sheets that end early: 1 below 8 bytes, whatever they are.
@@ -323,14 +232,10 @@ fn layouts() {
     ten_routes();
 }
 
-// A ring of five, a route joined to two of its routes, and an end on either side.
+// The line of ten routes.
 fn ten_routes() {
     let mut s = [0u8; SMALL];
-    put_words(&mut s, 0, &[10, 0, 1, 3, 6, 9, 11, 13, 16, 19, 21, 22]);
-    // rows [1] [0,2] [1,3,6] [2,4,7] [3,5]
-    put_words(&mut s, 12, &[1, 0, 2, 1, 3, 6, 2, 4, 7, 3, 5]);
-    // rows [4,6] [2,5,7] [3,6,8] [7,9] [8]
-    put_words(&mut s, 23, &[4, 6, 2, 5, 7, 3, 6, 8, 7, 9, 8]);
+    put_ten(&mut s);
     line(b"ten routes", small(&s, 136));
 }
 

@@ -1,64 +1,20 @@
--- Laws of a list of operations: where one ends, which ids it has, and what is left to do after it. Assumes nothing.
+-- Laws of a list of operations: what one of them leaves and says, and what is left to do after it. Assumes nothing.
 use Prim.Native.Nat.{ℕ, zero, suc, _+_, _-_, _≤_, _<_}
 use mathlib.Core.Path.{_≡_, refl, sym, ap, _∙_}
 use mathlib.Core.List.{List, [], _∷_, _++_}
 use native.Mathlib.Omega.{arith}
-use lib.ListN.{length, getD, take, drop, length-drop, drop-of-length-le}
-use lib.Seq.{sets, take-nil, take-all}
-use lib.Dec.{ltb}
-use borrow.Author.Tests.{ltb-true, ltb-false, lt-ltb, le-ltb}
+use lib.ListN.{length, getD}
+use lib.Seq.{sets}
+use borrow.Author.Tests.{lt-ltb, le-ltb}
 use Rattle.limits.specs.Limits.{none}
-use Rattle.theory.proofs.Count.{cases}
 use Rattle.pairing.specs.declared.Pairing.{Pairing}
-use Rattle.drive.specs.declared.replies.Reply.{Reply}
-use Rattle.drive.specs.Answers.{Laid, laid, lay}
-use Rattle.drive.specs.Replies.{replyTo, behind, numbersOf}
-use Rattle.drive.specs.Drive.{Operation, endOf, idsAt, operationAt, operationsFrom, operations, nextOf, saidOf, performed, said}
-use Rattle.drive.proofs.Laying.{lay-append, lay-sets}
-
--- ---- the place after an operation
-
-pub end-past : (len at m : ℕ) → len ≤ at + 2 + m → len ≡ endOf len at m
-unfolding endOf
-end-past len at m h = rw (le-ltb (at + 2 + m) len h) refl
-
-pub end-within : (len at m : ℕ) → at + 2 + m < len → at + 2 + m ≡ endOf len at m
-unfolding endOf
-end-within len at m h = rw (lt-ltb (at + 2 + m) len h) refl
-
--- it is further on, and at most the end
-pub end-after : (len at m : ℕ) → at < len → (at < endOf len at m) × (endOf len at m ≤ len)
-unfolding endOf
-end-after len at m h = cases (ltb (at + 2 + m) len)
-    (λ t. let l = ltb-true (at + 2 + m) len t in rw t (omega arith, omega arith))
-    (λ t. rw t (omega arith, omega arith))
-
--- the ids lie before it, where the list does not end before them
-pub end-ids : (len at m to : ℕ) → at + 2 < len → to ≡ endOf len at m → (at + 2 ≤ to) × (to ≤ len)
-unfolding endOf
-end-ids len at m to h e = cases (ltb (at + 2 + m) len)
-    (λ t. let l = ltb-true (at + 2 + m) len t in let z : to ≡ at + 2 + m = rw t at e in (omega arith, omega arith))
-    (λ t. let z : to ≡ len = rw t at e in (omega arith, omega arith))
-
--- ---- the ids of an operation
-
-pub ids-none : (ops : List ℕ) (at : ℕ) → length ops ≤ at + 2 → [] ≡ idsAt ops at
-unfolding idsAt
-ids-none ops at h = rw (drop-of-length-le ops {i = at + 2} h) (sym (take-nil (getD ops (at + 1) none)))
-
-pub ids-some : (ops : List ℕ) (at m to : ℕ) → at + 2 < length ops → m ≡ getD ops (at + 1) none → to ≡ endOf (length ops) at m
-    → take (to - (at + 2)) (drop (at + 2) ops) ≡ idsAt ops at
-unfolding idsAt
-ids-some ops at m to h e f = cases (ltb (at + 2 + m) (length ops))
-    (λ t.
-    let l = ltb-true (at + 2 + m) (length ops) t in
-    let z : to - (at + 2) ≡ m = omega (arith, end-within (length ops) at m l) in
-    rw (z, e) refl)
-    (λ t.
-    let l = ltb-false (at + 2 + m) (length ops) t in
-    let z : to ≡ length ops = f ∙ sym (end-past (length ops) at m l) in
-    let d = length-drop (at + 2) ops in
-    rw (← e) (take-all (to - (at + 2)) (drop (at + 2) ops) (omega arith) ∙ sym (take-all m (drop (at + 2) ops) (omega arith))))
+use Rattle.lent.specs.Operations.{Operation, endOf, operationAt, operationsFrom, operations}
+use Rattle.lent.proofs.Ends.{end-after}
+use Rattle.asked.specs.declared.Reply.{Reply}
+use Rattle.asked.specs.Replies.{replyTo, behind, numbersOf}
+use Rattle.laid.specs.Answers.{Laid, laid, lay}
+use Rattle.laid.proofs.Laying.{lay-append, lay-sets}
+use Rattle.drive.specs.Drive.{nextOf, saidOf, performed, said}
 
 -- ---- one operation
 

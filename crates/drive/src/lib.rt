@@ -1,24 +1,23 @@
 // Operations on a pairing by itself, for runs from Rust; no part of the boundary. One call takes a pairing as bytes and
 // a list of operations as numbers, applies them in turn, writes the pairing back, and lays down what each of them
-// answered. `state` has the bytes, `replies` the operations, `answers` the numbers that are laid down.
-use crate::answers::put_pairs;
-use crate::answers::put_reply;
-use crate::replies::reply_to;
-use crate::state::read_pairing;
-use crate::state::write_pairing;
-use limits::NONE;
+// answered. Below stand the crates `lent` (the bytes and the numbers), `asked` (the operations) and `laid` (the numbers that
+// are laid down).
+use asked::reply_to;
+use laid::put_pairs;
+use laid::put_reply;
+use lent::end_of;
+use lent::ids_at;
+use lent::number_at;
+use lent::state::read_pairing;
+use lent::state::write_pairing;
 use pairing::Pairing;
 ghost use mathlib.Core.Path.{_≡_};
-ghost use lib.ListN.{length, getD};
+ghost use lib.ListN.{length};
 ghost use lib.Seq.{sets};
-ghost use Rattle.limits.specs.Limits.{none};
-ghost use Rattle.drive.specs.State.{pairingOf, putPairing};
-ghost use Rattle.drive.specs.Answers.{laid, lay};
-ghost use Rattle.drive.specs.Drive.{endOf, idsAt, operationAt, operations, nextOf, saidOf, performed, said};
-
-mod answers;
-pub mod replies;
-mod state;
+ghost use Rattle.lent.specs.State.{pairingOf, putPairing};
+ghost use Rattle.lent.specs.Operations.{operationAt, operations};
+ghost use Rattle.laid.specs.Answers.{laid, lay};
+ghost use Rattle.drive.specs.Drive.{nextOf, saidOf, performed, said};
 
 // What one operation leaves: the pairing, and the place of the next answer.
 struct Step {
@@ -30,51 +29,6 @@ struct Step {
 struct Run {
     pub pairing: Pairing,
     pub count: usize,
-}
-
-// The number at a place of the list; none past its end.
-pub fn number_at(ops: &[u32], k: usize) -> u32
-    ensures { λ r. ⌜ r ≡ getD (now (ops .entry)) k none ⌝ }
-{
-    if k < ops.len() {
-        return ops[k];
-    }
-    NONE
-}
-
-// Where the operation at a place ends that has so many ids: the place of the next one, at most the end of the list.
-pub fn end_of(len: usize, at: usize, ids: u32) -> usize
-    ensures { λ r. ⌜ r ≡ endOf len at ids ⌝ }
-{
-    if len <= at {
-        return len;
-    }
-    let left = len - at;
-    if left <= 2 {
-        return len;
-    }
-    let many = ids as usize;
-    if left - 2 <= many {
-        return len;
-    }
-    at + 2 + many
-}
-
-// The ids of the operation at a place: as many as it says, or as are there.
-pub fn ids_at(ops: &[u32], at: usize) -> &[u32]
-    ensures { λ r. ⌜ now r ≡ idsAt (now (ops .entry)) at ⌝ }
-{
-    let z = 0;
-    let len = ops.len();
-    if len <= at {
-        return &ops[z..z];
-    }
-    if len - at <= 2 {
-        return &ops[z..z];
-    }
-    let from = at + 2;
-    let to = end_of(len, at, number_at(ops, at + 1));
-    &ops[from..to]
 }
 
 // The operation at a place of the list.

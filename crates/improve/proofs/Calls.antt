@@ -1,4 +1,4 @@
--- A call, refused or not, over plain variables; and two calls in a row. Assumes nothing.
+-- A call, refused or not, over plain variables. Assumes nothing.
 use Prim.Native.Nat.{ℕ, _-_, _≤_}
 use mathlib.Core.Path.{_≡_, refl, sym, ap, _∙_}
 use mathlib.Core.Bool.{Bool, true, false, _&&_}
@@ -11,12 +11,14 @@ use Rattle.theory.specs.Pairing.{paired, pairs, sessions}
 use Rattle.theory.proofs.Count.{clash, count-le}
 use Rattle.words.specs.Words.{bytesTo}
 use Rattle.rows.specs.Sheet.{order, graphOf}
-use Rattle.witness.specs.Given.{mateOf}
-use Rattle.witness.specs.Verdict.{refuses, improveVerdict}
+use Rattle.causes.specs.Given.{mateOf}
+use Rattle.verdicts.specs.Verdict.{refuses}
+use Rattle.witness.specs.Verdict.{improveVerdict}
 use Rattle.witness.specs.Promise.{Begins}
-use Rattle.witness.specs.declared.Verdict.{Verdict}
+use Rattle.verdicts.specs.declared.Verdict.{Verdict}
 use Rattle.witness.proofs.Checker.{passed-improve}
-use Rattle.improve.specs.Choice.{improved, last, finishedBy, witnessBy, sizeOf, sessionsOf, pairingAfter, witnessAfter, addedOf, sizeAfter, finishedOf, sessionsAfter}
+use Rattle.buffers.specs.Held.{sizeOf, sessionsOf}
+use Rattle.improve.specs.Choice.{improved, last, finishedBy, witnessBy, pairingAfter, witnessAfter, addedOf, sizeAfter, finishedOf, sessionsAfter}
 use Rattle.improve.specs.Promise.{Chosen, Improve}
 use Rattle.improve.proofs.Meaning.{means, grows}
 

@@ -1,6 +1,4 @@
-mod Written
 mod Climbing
 pub mod Meaning
 mod Working
 pub mod Calls
-pub mod Twice

@@ -22,12 +22,13 @@ use Rattle.words.specs.Words.{bytesTo}
 use Rattle.words.proofs.Bytes.{word-past, bytesTo-length, bytesTo-word}
 use Rattle.rows.specs.Sheet.{order, graphOf}
 use Rattle.sheet.proofs.Read.{simple, order-most}
-use Rattle.witness.specs.Given.{mateOf}
+use Rattle.causes.specs.Given.{mateOf}
 use Rattle.witness.specs.Promise.{PairingBytes, Begins, Shown}
 use Rattle.witness.proofs.Checker.{shown-accepted, shown-maximum}
-use Rattle.improve.specs.Choice.{partnersOf, improved, last, finishedBy, witnessBy, sizeOf, sessionsOf}
+use Rattle.buffers.specs.Held.{partnersOf, sizeOf, sessionsOf}
+use Rattle.buffers.proofs.Written.{partners-length, partners-cell}
+use Rattle.improve.specs.Choice.{improved, last, finishedBy, witnessBy}
 use Rattle.improve.specs.Promise.{Means}
-use Rattle.improve.proofs.Written.{partners-length, partners-cell}
 
 -- ---- the bytes as a table, and the table as bytes
 

@@ -1,21 +1,48 @@
 -- The work of a call, over plain variables: what is loaded, searched and saved is the choice. Assumes nothing.
-use Prim.Native.Nat.{ℕ}
-use mathlib.Core.Path.{_≡_, sym, ap, _∙_}
+use Prim.Native.Nat.{ℕ, _≤_, _<_}
+use mathlib.Core.Path.{_≡_, sym, ap, _∙_, fun-ext}
 use mathlib.Core.Bool.{Bool, true, false}
 use mathlib.Core.List.{List, map}
-use lib.ListN.{getD, take}
+use native.Mathlib.Omega.{arith}
+use lib.Dec.{ltb}
+use lib.ListN.{length, getD, take, length-map, List·getD-eq-default}
+use lib.Seq.{getD-take, ext-getD}
+use borrow.Author.Tests.{lt-ltb, ltb-true, ltb-false}
 use Rattle.limits.specs.Limits.{routes, none}
 use Rattle.theory.specs.Parts.{run}
 use Rattle.theory.specs.Search.Tables.{cell}
 use Rattle.theory.specs.Search.Searched.{Outcome, found, stuck, mark, searchedIn, improvedIn}
+use Rattle.theory.proofs.Count.{cases}
+use Rattle.theory.proofs.Search.Cells.{getD-any}
+use Rattle.theory.proofs.Parts.{map-at}
 use Rattle.words.specs.Words.{bytesTo}
 use Rattle.rows.specs.Sheet.{order, graphOf}
 use Rattle.sheet.proofs.Read.{order-most}
 use Rattle.witness.specs.Promise.{Begins}
-use Rattle.improve.specs.Choice.{partnersOf, improved, last, finishedBy, witnessBy}
+use Rattle.buffers.specs.Held.{partnersOf}
+use Rattle.buffers.proofs.Written.{listed-length, listed-at}
+use Rattle.improve.specs.Choice.{improved, last, finishedBy, witnessBy}
 use Rattle.improve.specs.Climb.{Climbs}
-use Rattle.improve.proofs.Written.{cell-getD, marks-same}
 use Rattle.improve.proofs.Meaning.{left-length, witness-length}
+
+-- ---- a cell by its number, and as the list has it
+
+cell-getD : (room : ℕ) (l : List ℕ) → length l ≡ room → cell room l ≡ (λ v. getD l v none)
+unfolding cell
+cell-getD room l e = fun-ext (λ v. cases (ltb v room)
+    (λ t. rw t (getD-any l v 0 none (omega (arith, e, ltb-true v room t))))
+    (λ t. rw t (sym (List·getD-eq-default l none (omega (arith, e, ltb-false v room t))))))
+
+-- the marks by the cells of the labels, and by the labels
+marks-same : (room n : ℕ) (l : List ℕ) → n ≤ room → length (map mark (take n l)) ≡ n → map (λ v. mark (cell room l v)) (run 0 n) ≡ map mark (take n l)
+unfolding cell
+marks-same room n l h e = ext-getD 0 (map (λ v. mark (cell room l v)) (run 0 n)) (map mark (take n l)) (listed-length (λ v. mark (cell room l v)) n ∙ sym e)
+    (λ v i.
+    let below : v < n = omega (arith, i, listed-length (λ u. mark (cell room l u)) n) in
+    listed-at (λ u. mark (cell room l u)) n v below
+    ∙ rw (lt-ltb v room (omega arith)) (sym (map-at mark (take n l) v (omega (arith, below, e, length-map (take n l) mark)) ∙ ap mark (getD-take n l v 0 below))))
+
+-- ---- the work
 
 module _ (s p w : List ℕ) (B : Begins s p w) (b n : ℕ) (t q l : List ℕ) (r : Bool) (en : n ≡ order s) (et : t ≡ partnersOf p) (C : Climbs routes (graphOf s) t q l b r) where
   is-improved : q ≡ improved s p b

@@ -1,20 +1,15 @@
 -- The choice: what a call of improve leaves, as functions of the bytes that it was lent. Nothing is left open. Assumes nothing.
 use Prim.Native.Nat.{ℕ, _-_}
 use mathlib.Core.Bool.{Bool, cond}
-use mathlib.Core.List.{List, map}
+use mathlib.Core.List.{List}
 use lib.ListN.{getD}
 use Rattle.limits.specs.Limits.{routes, none}
-use Rattle.theory.specs.Parts.{run}
-use Rattle.theory.specs.Pairing.{pairs, sessions}
 use Rattle.theory.specs.Search.Searched.{Outcome, found, stuck, searchedIn, improvedIn}
-use Rattle.words.specs.Words.{word, bytesTo}
+use Rattle.words.specs.Words.{bytesTo}
 use Rattle.rows.specs.Sheet.{order, graphOf}
-use Rattle.witness.specs.Given.{mateOf}
-use Rattle.witness.specs.Verdict.{refuses, improveVerdict}
-
--- the partners that the bytes hold, as the table of a search: past the last, none
-unfoldable pub partnersOf : List ℕ → List ℕ
-partnersOf pairing = map (word pairing) (run 0 routes)
+use Rattle.verdicts.specs.Verdict.{refuses}
+use Rattle.witness.specs.Verdict.{improveVerdict}
+use Rattle.buffers.specs.Held.{partnersOf, sizeOf, sessionsOf}
 
 -- the partners after at most b searches
 unfoldable pub improved : List ℕ → List ℕ → ℕ → List ℕ
@@ -33,14 +28,6 @@ finishedBy (stuck a) = 1
 abbrev pub witnessBy : Outcome → List ℕ → List ℕ
 witnessBy (found q) witness = witness
 witnessBy (stuck a) witness = a
-
--- the size of a pairing, read from its bytes
-unfoldable pub sizeOf : List ℕ → List ℕ → ℕ
-sizeOf s pairing = pairs (graphOf s) (mateOf pairing)
-
--- the sessions that it leaves
-unfoldable pub sessionsOf : List ℕ → List ℕ → ℕ
-sessionsOf s pairing = sessions (graphOf s) (mateOf pairing)
 
 -- x, or y where the call is refused
 abbrev pub orRefused : {A : Type 0} → List ℕ → List ℕ → List ℕ → A → A → A

@@ -9,12 +9,14 @@ use lib.ListN.{length}
 use Rattle.theory.specs.Largest.{Largest}
 use Rattle.theory.specs.Plan.{Session, Plan}
 use Rattle.rows.specs.Sheet.{order, graphOf}
-use Rattle.witness.specs.Given.{mateOf}
-use Rattle.witness.specs.Verdict.{refuses, improveVerdict, checkOf}
+use Rattle.causes.specs.Given.{mateOf}
+use Rattle.verdicts.specs.Verdict.{refuses}
+use Rattle.witness.specs.Verdict.{improveVerdict, checkOf}
 use Rattle.witness.specs.Promise.{PairingBytes}
-use Rattle.witness.specs.declared.Verdict.{Verdict}
-use Rattle.witness.specs.declared.Verdict.the-variants as verdict
-use Rattle.improve.specs.Choice.{sizeOf, sessionsOf, pairingAfter, witnessAfter, addedOf, sizeAfter, finishedOf, sessionsAfter}
+use Rattle.verdicts.specs.declared.Verdict.{Verdict}
+use Rattle.verdicts.specs.declared.Verdict.the-variants as verdict
+use Rattle.buffers.specs.Held.{sizeOf, sessionsOf}
+use Rattle.improve.specs.Choice.{pairingAfter, witnessAfter, addedOf, sizeAfter, finishedOf, sessionsAfter}
 
 -- an accepted call: p and w are the bytes of pairing and witness before, p′ and w′ after, b is the budget, and the last four are the answer's
 pub record Means (s p p′ w w′ : List ℕ) (b added size finished sessions : ℕ) : Type 0 where

@@ -1,16 +1,16 @@
 // At most so many pairs more, from the pairing that is lent. The work is done in local tables, and the lent bytes are
 // written in one last step, behind which only the size is read from them. A refusal leaves them alone.
-use crate::lent::load;
-use crate::lent::pairs_of;
-use crate::lent::save;
-use crate::lent::save_marks;
+use buffers::load;
+use buffers::pairs_of;
+use buffers::save;
+use buffers::save_marks;
 use limits::NONE;
 use limits::ROUTES;
 use rows::order;
 use search::searched;
-use witness::Verdict;
+use verdicts::Verdict;
+use verdicts::refuses;
 use witness::improve_verdict;
-use witness::refuses;
 ghost use mathlib.Core.Path.{_≡_};
 ghost use lib.ListN.{getD};
 ghost use Rattle.limits.specs.Limits.{routes, none};
@@ -20,8 +20,6 @@ ghost use Rattle.witness.specs.Promise.{Begins};
 ghost use Rattle.improve.specs.Choice.{improved, last, finishedBy, witnessBy};
 ghost use Rattle.improve.specs.Climb.{Climbs};
 ghost use Rattle.improve.specs.Promise.{Improve};
-
-mod lent;
 
 // The answer of `improve`.
 pub struct Improved {

@@ -2,20 +2,25 @@
 // the sheet says, then what `wisharek_improve` answers, the unpaired routes counted from the bytes that it left, and what
 // `wisharek_check` says of them. A reply is number, A and B. The file `stdout` beside `src/` is written from the scope and
 // the table of refusals, and not from a run of this program.
-use libc::STDOUT_FILENO;
 use limits::NONE;
 use limits::ROUTES;
+use printing::field;
+use printing::write;
+use samples::ALL;
+use samples::LARGE;
+use samples::SMALL;
+use samples::front;
+use samples::long_at;
+use samples::put_all;
+use samples::put_ten;
+use samples::put_words;
+use samples::sheet_length;
+use samples::small;
 use wisharek::wisharek_check;
 use wisharek::wisharek_improve;
 use words::put_word;
 use words::word_at;
 ghost use Prim.Native.Nat.{_≤_};
-
-// Room for the largest sheet that is accepted.
-const LARGE: usize = 8 + 4 * ROUTES * ROUTES;
-
-// Room for forty numbers.
-const SMALL: usize = 160;
 
 // Room for a set of one route more than the most.
 const WITNESS: usize = ROUTES + 1;
@@ -25,21 +30,6 @@ const PAIRING: usize = 4 * WITNESS;
 
 // The bytes of a pairing of ten routes.
 const TEN: usize = 40;
-
-// A budget that sets no limit.
-const ALL: u32 = 4294967295;
-
-// Writes a number with its name before it.
-fn field(name: &[u8], x: u64) {
-    io::write_all(STDOUT_FILENO, name);
-    io::print_decimal(STDOUT_FILENO, x);
-}
-
-// Number k of an answer, of eight bytes.
-fn long_at(answer: &[u8], k: u32) -> u64 {
-    let low = 2 * (k as usize);
-    (word_at(answer, low) as u64) + 4294967296 * (word_at(answer, low + 1) as u64)
-}
 
 // Writes number, A and B of an answer.
 fn reply(name: &[u8], answer: &[u8]) {
@@ -59,11 +49,11 @@ fn improved(answer: &[u8]) {
 
 // Writes the entry total, where the sheet is long enough to say one.
 fn entries(s: &[u8]) {
-    io::write_all(STDOUT_FILENO, b":");
+    write(b":");
     let k = word_at(s, 0) as usize + 1;
     if k < s.len() / 4 {
         field(b" entries ", word_at(s, k) as u64);
-        io::write_all(STDOUT_FILENO, b",");
+        write(b",");
     }
 }
 
@@ -106,12 +96,12 @@ fn check(s: &[u8], pairing: &[u8], witness: &[u8]) {
 fn left(s: &[u8], pairing: &[u8], witness: &[u8]) {
     field(b", unpaired ", unpaired(pairing));
     check(s, pairing, witness);
-    io::write_all(STDOUT_FILENO, b"\n");
+    write(b"\n");
 }
 
 // The line of a layout.
 fn line(label: &[u8], s: &[u8], pairing: &mut [u8], witness: &mut [u8], budget: u32) {
-    io::write_all(STDOUT_FILENO, label);
+    write(label);
     field(b", budget ", budget as u64);
     entries(s);
     improve(s, pairing, witness, budget);
@@ -130,82 +120,10 @@ fn from_nothing(label: &[u8], s: &[u8], n: usize) {
     line(label, s, &mut pairing[z..end], &mut witness[z..n], ALL);
 }
 
-// The first bytes of a slice, all of them where there are fewer.
-fn front(s: &[u8], bytes: usize) -> &[u8] {
-    let z = 0;
-    if s.len() < bytes {
-        return s;
-    }
-    &s[z..bytes]
-}
-
-// The same of a small sheet.
-fn small(s: &[u8; SMALL], bytes: usize) -> &[u8] {
-    front(s, bytes)
-}
-
-// The words put one after the other, from the first on; the other bytes stay as they are.
-fn put_words(s: &mut [u8; SMALL], words: &[u32]) {
-    let mut k = 0;
-    while k < words.len() {
-        put_word(s, k, words[k]);
-        k += 1;
-    }
-}
-
-// Entry number e of the sheet in which all routes are joined, m to a row: the routes rising, without the row's own.
-fn other(e: u32, m: u32) -> u32 {
-    if m == 0 {
-        return 0;
-    }
-    let row = e / m;
-    let place = e % m;
-    if place < row {
-        return place;
-    }
-    place + 1
-}
-
-// n and the contents of the sheet in which all of n routes are joined, for an n up to the limit.
-fn put_contents(s: &mut [u8; LARGE], n: u32) {
-    if n == 0 {
-        return;
-    }
-    if ROUTES < n as usize {
-        return;
-    }
-    put_word(s, 0, n);
-    let mut start = 0;
-    let mut k = 0;
-    while k <= n {
-        put_word(s, k as usize + 1, start);
-        start += n - 1;
-        k += 1;
-    }
-}
-
-// Its entries, of which there are so many.
-fn put_entries(s: &mut [u8; LARGE], n: u32, total: u32) {
-    if n == 0 {
-        return;
-    }
-    let mut e = 0;
-    while e < total {
-        put_word(s, n as usize + 2 + e as usize, other(e, n - 1));
-        e += 1;
-    }
-}
-
-// The length of a sheet of n routes and so many entries.
-fn length(n: u32, total: u32) -> usize {
-    8 + 4 * (n as usize) + 4 * (total as usize)
-}
-
-// The line of that sheet.
+// The line of the sheet in which all of n routes are joined, of so many entries.
 fn all_of(label: &[u8], s: &mut [u8; LARGE], n: u32, total: u32) {
-    put_contents(s, n);
-    put_entries(s, n, total);
-    from_nothing(label, front(s, length(n, total)), n as usize);
+    put_all(s, n);
+    from_nothing(label, front(s, sheet_length(n, total)), n as usize);
 }
 
 // Entry numbers up to 65,535 and above.
@@ -234,7 +152,7 @@ fn too_many(s: &mut [u8; LARGE]) {
 // The line of the sheet that has these words and ends after so many bytes.
 fn given(label: &[u8], words: &[u32], bytes: usize, n: usize) {
     let mut s = [0u8; SMALL];
-    put_words(&mut s, words);
+    put_words(&mut s, 0, words);
     from_nothing(label, small(&s, bytes), n);
 }
 
@@ -251,7 +169,7 @@ fn refused() {
 // The line of the claw: 0 joined to 1, 2, 3.
 fn claw(label: &[u8], pairing: &mut [u8], witness: &mut [u8], budget: u32) {
     let mut s = [0u8; SMALL];
-    put_words(&mut s, &[4, 0, 3, 4, 5, 6, 1, 2, 3, 0, 0, 0]);
+    put_words(&mut s, 0, &[4, 0, 3, 4, 5, 6, 1, 2, 3, 0, 0, 0]);
     line(label, small(&s, 48), pairing, witness, budget);
 }
 
@@ -264,49 +182,11 @@ fn claws() {
     claw(b"claw again", &mut pairing, &mut witness, 1);
 }
 
-// The line of ten routes: a ring of five, a route joined to two of its routes, and an end on either side.
+// The line of ten routes.
 fn ten(label: &[u8], pairing: &mut [u8; TEN]) {
     let mut witness = [0u8; 10];
     let mut s = [0u8; SMALL];
-    put_words(
-        &mut s,
-        &[
-            10,
-            0,
-            1,
-            3,
-            6,
-            9,
-            11,
-            13,
-            16,
-            19,
-            21,
-            22,
-            1,
-            0,
-            2,
-            1,
-            3,
-            6,
-            2,
-            4,
-            7,
-            3,
-            5,
-            4,
-            6,
-            2,
-            5,
-            7,
-            3,
-            6,
-            8,
-            7,
-            9,
-            8,
-        ],
-    );
+    put_ten(&mut s);
     line(label, small(&s, 136), pairing, &mut witness, ALL);
 }
 

@@ -17,7 +17,7 @@ use Rattle.theory.proofs.Count.{cases, same-test, count-cong, count-not}
 use Rattle.refusals.specs.Partners.{mateOf, isPaired, countOf, Sound, fresh, isLower, lowers, paired, idAt, Pairable, after, augmented}
 use Rattle.refusals.proofs.Sound.{mate-id, mate-back, fresh-mate, paired-sound, paired-cases}
 use Rattle.pairing.proofs.Pairs.{rising-length, order-twice}
-use Rattle.pairing.proofs.Paths.{after-sound}
+use Rattle.joins.proofs.Paths.{after-sound}
 
 -- ids from k on do not pass: none is counted there
 count-above : (k n : ℕ) (P : ℕ → Bool) → k ≤ n → ((v : ℕ) → k ≤ v → P v ≡ false) → count n P ≡ count k P

@@ -15,7 +15,7 @@ use Rattle.refusals.proofs.Sound.{fresh-sound, fresh-count, paired-sound}
 use Rattle.refusals.proofs.Replies.{sound-accepted}
 use Rattle.pairing.specs.Answers.{pairAnswer, augmentAnswer}
 use Rattle.pairing.specs.declared.Pairing.{Pairing}
-use Rattle.pairing.proofs.Paths.{augmented-sound, augmented-cons, augmented-empty}
+use Rattle.joins.proofs.Paths.{augmented-sound, augmented-cons, augmented-empty}
 
 pub fresh-accepted : pairingReply fresh 0 ≡ Accepted
 fresh-accepted = rw fresh-count at (sound-accepted fresh fresh-sound)

@@ -1,12 +1,13 @@
 // A pairing by itself: for each id its partner, and how many ids have one. It is one value of fixed size. Each operation
 // takes the pairing by value and checks it before all else; `pair` and `augment` hand back the next one, or the same one
 // where they are refused, and the others, which take a copy as well, answer what was asked. Below stands the crate
-// `refusals`: the table of partners, and the refusals in the order of their numbers.
+// `refusals`: the table of partners, and the refusals in the order of their numbers, and `joins`: new pairs in the table.
+use joins::join;
+use joins::join_all;
 use limits::NONE;
 use limits::ROUTES;
 pub use refusals::Refusal;
 use refusals::checks::first;
-use refusals::checks::id_at;
 use refusals::checks::id_refusal;
 use refusals::checks::mate_refusal;
 use refusals::checks::pair_refusal;
@@ -14,19 +15,16 @@ use refusals::checks::pairing_refusal;
 use refusals::checks::path_refusal;
 use refusals::checks::refuses;
 use refusals::partners::IDS;
-use refusals::partners::free;
 use refusals::partners::is_paired;
 use refusals::partners::partner_of;
 pub use refusals::tell;
 ghost use mathlib.Core.Path.{_≡_};
-ghost use mathlib.Core.Logic.{_≢_};
 ghost use mathlib.Core.Bool.{true, cond};
 ghost use Prim.Native.Nat.{ℕ, _+_, _/_, _<_};
 ghost use lib.ListN.{getD, set};
 ghost use Rattle.limits.specs.Limits.{routes, none};
 ghost use Rattle.theory.specs.Count.{bit};
-ghost use Rattle.refusals.specs.Partners.{Sound, mateOf, countOf, fresh, paired, augmented, isLower};
-ghost use Rattle.refusals.specs.Reply.{pathReply};
+ghost use Rattle.refusals.specs.Partners.{Sound, mateOf, fresh, paired, isLower};
 ghost use Rattle.pairing.specs.Answers.{kept, pairAnswer, augmentAnswer, orderAnswer, hasNodeAnswer, mateAnswer, edgesIn, edgesAnswer};
 
 // The most pairs that there can be.
@@ -68,39 +66,6 @@ pub struct Edges {
     pub count: usize,
     pub lower: [u32; HALF],
     pub upper: [u32; HALF],
-}
-
-// a and b made partners, and their old partners free; the answer is how many ids are paired then. The count before it and
-// what was freed say so: nothing is counted anew.
-fn join(t: &mut [u32; ROUTES], count: u32, a: u32, b: u32) -> u32
-    requires { ⌜ Sound (now t) × (count ≡ countOf (now t)) × (a < routes) × (b < routes) × (a ≢ b) ⌝ }
-    ensures partners { λ _. ⌜ now (t .exit) ≡ paired (now (t .entry)) a b ⌝ }
-    ensures counted { λ r. ⌜ r ≡ countOf (paired (now (t .entry)) a b) ⌝ }
-{
-    let from_a = free(t, a);
-    let from_b = free(t, b);
-    let i = a as usize;
-    let j = b as usize;
-    t[i] = b;
-    t[j] = a;
-    count - from_a - from_b + 2
-}
-
-// The ids at positions 0 and 1 of the path made partners, then those at 2 and 3, and so on; the answer is how many ids
-// are paired then.
-fn join_all(t: &mut [u32; ROUTES], count: u32, path: &[u32]) -> u32
-    requires { ⌜ Sound (now t) × (count ≡ countOf (now t)) × (pathReply (now path) ≡ Refusal.Accepted) ⌝ }
-    ensures partners { λ _. ⌜ now (t .exit) ≡ augmented (now (t .entry)) (now (path .entry)) ⌝ }
-    ensures counted { λ r. ⌜ r ≡ countOf (augmented (now (t .entry)) (now (path .entry))) ⌝ }
-{
-    let pairs = path.len() / 2;
-    let mut n = count;
-    let mut k = 0;
-    while k < pairs {
-        n = join(t, n, id_at(path, 2 * k), id_at(path, 2 * k + 1));
-        k += 1;
-    }
-    n
 }
 
 // The pair of which id is the lower one, if there is such a pair, put at place n of the tables; the answer is the place

@@ -17,7 +17,7 @@ use Rattle.words.specs.Words.{word, numbers, over}
 use Rattle.words.proofs.Bytes.{over-again, over-end, numbers-at, numbers-length}
 use Rattle.rows.specs.Sheet.{order, stretch, graphOf}
 use Rattle.sheet.specs.Reply.{replyOf}
-use Rattle.sheet.specs.declared.Reply.the-variants.{Accepted}
+use Rattle.replies.specs.declared.Reply.the-variants.{Accepted}
 use Rattle.rows.proofs.Stretches.{has-at}
 use Rattle.sheet.proofs.Read.{simple}
 

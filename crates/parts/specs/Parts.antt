@@ -6,7 +6,7 @@ use lib.ListN.{length}
 use Rattle.words.specs.Words.{word}
 use Rattle.rows.specs.Sheet.{order}
 use Rattle.sheet.specs.Reply.{replyOf}
-use Rattle.sheet.specs.declared.Reply.the-variants.{Accepted}
+use Rattle.replies.specs.declared.Reply.the-variants.{Accepted}
 
 -- v is a cell of the table c, the set has as many marks as the table has cells, and so each entry of the row is a cell
 pub record Fits (c set : List ℕ) (v : ℕ) (row : List ℕ) : Type 0 where

@@ -1,9 +1,10 @@
 // The reader as exported functions, for runs from Rust; no part of the boundary. Each call reads the whole sheet and
 // hands out one of the three numbers of its reply.
+use replies::tell;
 use sheet::check;
-use sheet::tell;
 ghost use mathlib.Core.Path.{_≡_};
-ghost use Rattle.sheet.specs.Reply.{toldOf, replyOf};
+ghost use Rattle.replies.specs.Reply.{toldOf};
+ghost use Rattle.sheet.specs.Reply.{replyOf};
 
 // The reply's number.
 #[no_mangle]

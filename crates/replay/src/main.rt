@@ -1,8 +1,16 @@
 // Replays recorded answers of gamma through the exported calls, and prints how many of them agree. The files `data/rising`
 // and `data/other` have one input to a line and what gamma said of it; README.md says how, and what agrees. The file `stdout`
 // beside `src/` is counted from them, and not from a run of this program.
-use libc::STDOUT_FILENO;
 use limits::NONE;
+use printing::field;
+use printing::write;
+use samples::ALL;
+use samples::count;
+use samples::front;
+use samples::is_digit;
+use samples::long_at;
+use samples::sheet_length;
+use samples::with_digit;
 use wisharek::wisharek_check;
 use wisharek::wisharek_improve;
 use words::put_word;
@@ -21,9 +29,6 @@ const SHEET: usize = 16384;
 
 // Room for the bytes of a pairing.
 const PAIRING: usize = 256;
-
-// A budget that sets no limit.
-const ALL: u32 = 4294967295;
 
 // What comes of a line: refused alike.
 const REFUSED: u32 = 0;
@@ -47,25 +52,6 @@ const PASSED: u32 = 4;
 struct Read {
     x: u32,
     next: usize,
-}
-
-// Whether a byte is a digit.
-fn is_digit(byte: u8) -> bool {
-    if byte < 48 {
-        return false;
-    }
-    byte <= 57
-}
-
-// One more digit; a number that would be too long for four bytes stays.
-fn with_digit(x: u32, byte: u8) -> u32 {
-    if byte < 48 {
-        return x;
-    }
-    if 400000000 <= x {
-        return x;
-    }
-    10 * x + (byte - 48) as u32
 }
 
 // The place of the first digit from a place on, or the end.
@@ -151,23 +137,8 @@ fn put_start(line: &[u8], at: usize, pairing: &mut [u8; PAIRING]) -> usize {
 
 // The length of the sheet that these bytes begin with.
 fn length_of(sheet: &[u8]) -> usize {
-    let n = word_at(sheet, 0) as usize;
-    8 + 4 * n + 4 * (word_at(sheet, n + 1) as usize)
-}
-
-// The first bytes of a slice, all of them where there are fewer.
-fn front(s: &[u8], bytes: usize) -> &[u8] {
-    let z = 0;
-    if s.len() < bytes {
-        return s;
-    }
-    &s[z..bytes]
-}
-
-// Number k of an answer, of eight bytes.
-fn long_at(answer: &[u8], k: u32) -> u64 {
-    let low = 2 * (k as usize);
-    (word_at(answer, low) as u64) + 4294967296 * (word_at(answer, low + 1) as u64)
+    let n = word_at(sheet, 0);
+    sheet_length(n, word_at(sheet, n as usize + 1))
 }
 
 // Whether number k of an answer is what gamma said.
@@ -314,17 +285,6 @@ fn line_end(text: &[u8], at: usize) -> usize
     i
 }
 
-// One more of a kind.
-fn count(t: &mut [u64; KINDS], kind: u32) {
-    let k = kind as usize;
-    if k < KINDS {
-        let n = t[k];
-        if n < BYTES as u64 {
-            t[k] = n + 1;
-        }
-    }
-}
-
 // All lines, in turn.
 fn replay(text: &[u8], counted: &mut [u64; KINDS]) {
     let mut at = 0;
@@ -335,21 +295,15 @@ fn replay(text: &[u8], counted: &mut [u64; KINDS]) {
     }
 }
 
-// Writes a number with words behind it.
-fn number(x: u64, what: &[u8]) {
-    io::write_all(STDOUT_FILENO, b" ");
-    io::print_decimal(STDOUT_FILENO, x);
-    io::write_all(STDOUT_FILENO, what);
-}
-
 // Replays a text, and writes what was counted.
 fn report(text: &[u8]) {
     let mut counted = [0u64; KINDS];
     replay(text, &mut counted);
-    number(counted[0], b" refused alike,");
-    number(counted[1], b" with the same pairs,");
-    number(counted[2], b" with as many pairs,");
-    number(counted[3], b" differences\n");
+    field(b" ", counted[0]);
+    field(b" refused alike, ", counted[1]);
+    field(b" with the same pairs, ", counted[2]);
+    field(b" with as many pairs, ", counted[3]);
+    write(b" differences\n");
 }
 
 // One file.
@@ -363,11 +317,11 @@ fn replay_file(path: &[u8]) {
     let n = io::read_full(fd, &mut text);
     libc::close(fd);
     if BYTES <= n {
-        io::write_all(STDOUT_FILENO, b"the file is too long\n");
+        write(b"the file is too long\n");
         return;
     }
-    io::write_all(STDOUT_FILENO, path);
-    io::write_all(STDOUT_FILENO, b":");
+    write(path);
+    write(b":");
     report(&text[..n]);
 }
 

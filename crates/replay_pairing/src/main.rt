@@ -2,15 +2,19 @@
 // file `data/sample` has one operation to a line, what gamma answered, and the order and the pairs that it left;
 // README.md says how it was made. Its numbers are read into a table, in which each line begins with an operation in the
 // form that `drive` reads. The file `stdout` beside `src/` is counted from the sample, and not from a run of this program.
-use drive::end_of;
-use drive::ids_at;
-use drive::number_at;
-use drive::replies::AUGMENT;
-use drive::replies::MATE;
-use drive::replies::reply_to;
-use libc::STDOUT_FILENO;
+use asked::AUGMENT;
+use asked::MATE;
+use asked::reply_to;
+use lent::end_of;
+use lent::ids_at;
+use lent::number_at;
 use pairing::HALF;
 use pairing::Pairing;
+use printing::number;
+use printing::write;
+use samples::count;
+use samples::is_digit;
+use samples::with_digit;
 ghost use Prim.Native.Nat.{_≤_};
 
 // Room for the sample's bytes, and one more.
@@ -44,25 +48,6 @@ struct Replayed {
 struct Counted {
     lines: u64,
     differences: u64,
-}
-
-// One more digit; a number that would be too long for four bytes stays.
-fn with_digit(x: u32, byte: u8) -> u32 {
-    if byte < 48 {
-        return x;
-    }
-    if 400000000 <= x {
-        return x;
-    }
-    10 * x + (byte - 48) as u32
-}
-
-// Whether a byte is a digit.
-fn is_digit(byte: u8) -> bool {
-    if byte < 48 {
-        return false;
-    }
-    byte <= 57
 }
 
 // A number put behind those that were read; the answer is how many they are then.
@@ -210,17 +195,6 @@ fn replay_line(p: Pairing, numbers: &[u32], at: usize) -> Replayed {
     }
 }
 
-// One more at a code.
-fn count(t: &mut [u64; CODES], code: u32) {
-    let k = code as usize;
-    if k < CODES {
-        let n = t[k];
-        if n < NUMBERS as u64 {
-            t[k] = n + 1;
-        }
-    }
-}
-
 // A line counted; the answer is 1 if it differs and 0 if it agrees.
 fn tally(line: Replayed, answered: &mut [u64; CODES], refused: &mut [u64; CODES]) -> u64
     ensures { λ r. ⌜ r ≤ 1 ⌝ }
@@ -255,26 +229,20 @@ fn replay(numbers: &[u32], answered: &mut [u64; CODES], refused: &mut [u64; CODE
     Counted { lines, differences }
 }
 
-// Writes a number with a space before it.
-fn number(x: u64) {
-    io::write_all(STDOUT_FILENO, b" ");
-    io::print_decimal(STDOUT_FILENO, x);
-}
-
 // Writes how often an operation was answered, and how often refused.
 fn line(name: &[u8], answered: u64, refused: u64) {
-    io::write_all(STDOUT_FILENO, name);
+    write(name);
     number(answered);
-    io::write_all(STDOUT_FILENO, b" answered,");
+    write(b" answered,");
     number(refused);
-    io::write_all(STDOUT_FILENO, b" refused\n");
+    write(b" refused\n");
 }
 
 // Writes a count.
 fn total(name: &[u8], x: u64) {
-    io::write_all(STDOUT_FILENO, name);
+    write(name);
     number(x);
-    io::write_all(STDOUT_FILENO, b"\n");
+    write(b"\n");
 }
 
 // The first numbers of the table, all of them where there are fewer.
@@ -312,7 +280,7 @@ fn main() {
     let n = io::read_full(fd, &mut text);
     libc::close(fd);
     if BYTES <= n {
-        io::write_all(STDOUT_FILENO, b"the sample is too long\n");
+        write(b"the sample is too long\n");
         return;
     }
     let mut numbers = [0u32; NUMBERS];

@@ -12,11 +12,14 @@ use Rattle.limits.specs.declared.Told.{Told}
 use Rattle.theory.proofs.Count.{cases, tests}
 use Rattle.rows.specs.Sheet.{order}
 use Rattle.sheet.proofs.Read.{order-most}
-use Rattle.witness.specs.Given.{mateOf, setOf}
-use Rattle.witness.specs.Verdict.{toldOf, refuses, improveVerdict}
+use Rattle.causes.specs.Given.{mateOf, setOf}
+use Rattle.verdicts.specs.Verdict.{toldOf, refuses}
+use Rattle.witness.specs.Verdict.{improveVerdict}
 use Rattle.witness.proofs.Checker.{passed-improve}
-use Rattle.report.specs.Put.{room}
-use Rattle.report.specs.Text.{digitsIn, digits, spaced, each, refusal, counts, pairLine, pairLines, member, overLine, planText, textOf}
+use Rattle.text.specs.Put.{room}
+use Rattle.text.specs.Digits.{digitsIn, digits, spaced}
+use Rattle.lines.specs.Lines.{each, refusal, counts, pairLine, pairLines, member, overLine}
+use Rattle.report.specs.Text.{planText, textOf}
 
 -- at most f digits, and one more than a tenth of the number has
 digits-most : (f x : ℕ) → length (digitsIn f x) ≤ f

@@ -15,14 +15,16 @@ use Rattle.theory.proofs.Count.{count-le}
 use Rattle.rows.specs.Sheet.{order, graphOf}
 use Rattle.words.proofs.Bytes.{word-there}
 use Rattle.sheet.specs.Reply.{replyOf}
-use Rattle.sheet.specs.declared.Reply.the-variants as sheet
+use Rattle.replies.specs.declared.Reply.the-variants as sheet
 use Rattle.sheet.proofs.Read.{order-most}
-use Rattle.witness.specs.Given.{mateOf}
-use Rattle.witness.specs.Verdict.{refuses, improveVerdict, checkOf}
+use Rattle.causes.specs.Given.{mateOf}
+use Rattle.verdicts.specs.Verdict.{refuses}
+use Rattle.witness.specs.Verdict.{improveVerdict, checkOf}
 use Rattle.witness.specs.Promise.{Begins}
-use Rattle.witness.specs.declared.Verdict.the-variants.{Accepted}
+use Rattle.verdicts.specs.declared.Verdict.the-variants.{Accepted}
 use Rattle.witness.proofs.Checker.{passed-improve, begins-accepted}
-use Rattle.improve.specs.Choice.{last, witnessBy, finishedBy, sizeOf, sessionsOf, pairingAfter, witnessAfter, sizeAfter}
+use Rattle.buffers.specs.Held.{sizeOf, sessionsOf}
+use Rattle.improve.specs.Choice.{last, witnessBy, finishedBy, pairingAfter, witnessAfter, sizeAfter}
 use Rattle.improve.specs.Promise.{Means}
 use Rattle.report.specs.Text.{noLimit, noPairs, noMembers}
 use Rattle.improve.proofs.Meaning.{means}

@@ -15,17 +15,19 @@ use Rattle.theory.proofs.Count.{cases}
 use Rattle.theory.proofs.Pairing.{pairs-unpaired}
 use Rattle.rows.specs.Sheet.{order, graphOf}
 use Rattle.sheet.proofs.Read.{order-most, simple}
-use Rattle.witness.specs.Given.{mateOf}
-use Rattle.witness.specs.Verdict.{toldOf, refuses, sheetVerdict, improveVerdict}
+use Rattle.causes.specs.Given.{mateOf}
+use Rattle.verdicts.specs.Verdict.{toldOf, refuses, sheetVerdict}
+use Rattle.witness.specs.Verdict.{improveVerdict}
 use Rattle.witness.specs.Promise.{Begins}
-use Rattle.witness.specs.declared.Verdict.{Verdict}
+use Rattle.verdicts.specs.declared.Verdict.{Verdict}
 use Rattle.witness.proofs.Checker.{passed-sheet, passed-improve, begins-accepted}
-use Rattle.improve.specs.Choice.{sizeOf, sessionsOf}
+use Rattle.buffers.specs.Held.{sizeOf, sessionsOf}
 use Rattle.improve.specs.Promise.{Means, Improve}
-use Rattle.report.specs.Put.{room, Appends}
-use Rattle.report.specs.Text.{noLimit, tooLong, refusal, counts, pairLines, overLine, planText, textOf, noPairs, noMembers, Reports}
+use Rattle.text.specs.Put.{room, Appends}
+use Rattle.text.proofs.Putting.{then, same}
+use Rattle.lines.specs.Lines.{refusal, counts, pairLines, overLine}
+use Rattle.report.specs.Text.{noLimit, tooLong, planText, textOf, noPairs, noMembers, Reports}
 use Rattle.report.specs.Start.{unpairedStart, emptySet}
-use Rattle.report.proofs.Putting.{then, same}
 use Rattle.report.proofs.Room.{text-most}
 
 -- an answer of improve as lines

@@ -1,27 +1,23 @@
-// What the planner's program writes for an input: one sheet, improved from nothing without a limit. `lines` writes each
-// line, and `put` one thing after the other.
-use crate::lines::put_counts;
-use crate::lines::put_over;
-use crate::lines::put_pairs;
-use crate::lines::put_refusal;
-use crate::put::put_word;
+// What the planner's program writes for an input: one sheet, improved from nothing without a limit. Below stand the crates
+// `lines`, which writes each line, and `text`, which puts one thing after the other.
 use improve::improve;
 use limits::ROUTES;
+use lines::put_counts;
+use lines::put_over;
+use lines::put_pairs;
+use lines::put_refusal;
 use rows::order;
-use witness::refuses;
-use witness::tell;
+pub use text::ROOM;
+use text::put_word;
+use verdicts::refuses;
+use verdicts::tell;
 ghost use mathlib.Core.Path.{_≡_};
 ghost use Prim.Native.Nat.{min};
 ghost use lib.ListN.{length};
 ghost use Rattle.limits.specs.Limits.{routes};
-ghost use Rattle.report.specs.Put.{room, Appends};
+ghost use Rattle.text.specs.Put.{room, Appends};
 ghost use Rattle.report.specs.Start.{unpairedStart, emptySet};
 ghost use Rattle.report.specs.Text.{planText, Reports};
-
-mod lines;
-mod put;
-
-pub use put::ROOM;
 
 // The most bytes that are looked at.
 const INPUT: usize = 65536;

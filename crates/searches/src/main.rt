@@ -4,27 +4,22 @@
 // in the order of the list; its start is such a list of pairs.
 // The file `stdout` beside `src/` holds what is to be printed. It comes from a plain model of the search, written by
 // itself, and not from a run of this program.
-use libc::STDOUT_FILENO;
 use limits::NONE;
 use limits::ROUTES;
+use printing::field;
+use printing::number;
+use printing::write;
+use samples::LARGE;
+use samples::front;
+use samples::put_all;
+use samples::put_entry;
+use samples::sheet_length;
 use search::searched;
 use tables::INNER;
 use tables::at;
 use tables::put;
 use words::put_word;
 ghost use Prim.Native.Nat.{_≤_, _*_, _+_};
-
-// The most entries: all of 257 joined. Their numbers do not fit 16 bits.
-const ENTRIES: u32 = 65792;
-
-// Room for that sheet.
-const ROOM: usize = 264204;
-
-// Writes a number with a space before it.
-fn number(x: u32) {
-    io::write_all(STDOUT_FILENO, b" ");
-    io::print_decimal(STDOUT_FILENO, x as u64);
-}
 
 // Writes a pair, where v has a partner and is the lower of the two.
 fn pair(v: u32, w: u32) {
@@ -34,45 +29,44 @@ fn pair(v: u32, w: u32) {
     if w <= v {
         return;
     }
-    number(v);
-    io::write_all(STDOUT_FILENO, b"-");
-    io::print_decimal(STDOUT_FILENO, w as u64);
+    number(v as u64);
+    field(b"-", w as u64);
 }
 
 // Writes the pairs of n routes, by lower route, rising.
 fn pairs(p: &[u32; ROUTES], n: u32) {
-    io::write_all(STDOUT_FILENO, b"pairs");
+    write(b"pairs");
     let mut v = 0;
     while v < n {
         pair(v, at(p, v));
         v += 1;
     }
-    io::write_all(STDOUT_FILENO, b"\n");
+    write(b"\n");
 }
 
 // Writes the inner ones of n routes, rising: the witness.
 fn over(label: &[u32; ROUTES], n: u32) {
-    io::write_all(STDOUT_FILENO, b"over");
+    write(b"over");
     let mut v = 0;
     while v < n {
         if at(label, v) == INNER {
-            number(v);
+            number(v as u64);
         }
         v += 1;
     }
-    io::write_all(STDOUT_FILENO, b"\n");
+    write(b"\n");
 }
 
 // One search, and what it brings. The answer is whether a pair more was found.
 fn once(name: &[u8], s: &[u8], n: u32, p: &mut [u32; ROUTES], label: &mut [u32; ROUTES]) -> bool {
     let found = searched(s, p, label);
-    io::write_all(STDOUT_FILENO, name);
+    write(name);
     if found {
-        io::write_all(STDOUT_FILENO, b": found\n");
+        write(b": found\n");
         pairs(p, n);
         return true;
     }
-    io::write_all(STDOUT_FILENO, b": stuck\n");
+    write(b": stuck\n");
     pairs(p, n);
     over(label, n);
     false
@@ -87,29 +81,6 @@ fn searches(name: &[u8], s: &[u8], n: u32, p: &mut [u32; ROUTES], label: &mut [u
         }
         k += 1;
     }
-}
-
-// The first bytes of the sheet, all of them where there are fewer.
-fn front(s: &[u8], bytes: usize) -> &[u8] {
-    let z = 0;
-    if s.len() < bytes {
-        return s;
-    }
-    &s[z..bytes]
-}
-
-// The length of a sheet of n routes and so many entries.
-fn length(n: u32, total: u32) -> usize {
-    8 + 4 * (n as usize) + 4 * (total as usize)
-}
-
-// x put as entry number e of a sheet of n routes. The answer is the next entry's number.
-fn put_entry(s: &mut [u8; ROOM], n: u32, e: u32, x: u32) -> u32 {
-    put_word(s, n as usize + 2 + e as usize, x);
-    if e < ENTRIES {
-        return e + 1;
-    }
-    e
 }
 
 // The route of a digit; after 9 come letters, a for 10.
@@ -137,7 +108,7 @@ fn count(list: &[u8]) -> usize
 }
 
 // What the edge between a and b brings to row v.
-fn put_end(s: &mut [u8; ROOM], n: u32, e: u32, v: u32, a: u32, b: u32) -> u32 {
+fn put_end(s: &mut [u8; LARGE], n: u32, e: u32, v: u32, a: u32, b: u32) -> u32 {
     if a == v {
         return put_entry(s, n, e, b);
     }
@@ -148,7 +119,7 @@ fn put_end(s: &mut [u8; ROOM], n: u32, e: u32, v: u32, a: u32, b: u32) -> u32 {
 }
 
 // Row v by a list of edges, from entry number e on. The answer is the number of the next row's first entry.
-fn put_row(s: &mut [u8; ROOM], n: u32, e: u32, v: u32, edges: &[u8]) -> u32 {
+fn put_row(s: &mut [u8; LARGE], n: u32, e: u32, v: u32, edges: &[u8]) -> u32 {
     let m = count(edges);
     let mut f = e;
     let mut k = 0;
@@ -159,35 +130,14 @@ fn put_row(s: &mut [u8; ROOM], n: u32, e: u32, v: u32, edges: &[u8]) -> u32 {
     f
 }
 
-// Row v where all of n routes are joined, likewise.
-fn put_others(s: &mut [u8; ROOM], n: u32, e: u32, v: u32) -> u32 {
-    let mut f = e;
-    let mut w = 0;
-    while w < n {
-        if w != v {
-            f = put_entry(s, n, f, w);
-        }
-        w += 1;
-    }
-    f
-}
-
-// Row v by a list of edges; by an empty list, which no layout here has of its own, all routes are joined.
-fn put_either(s: &mut [u8; ROOM], n: u32, e: u32, v: u32, edges: &[u8]) -> u32 {
-    if edges.len() == 0 {
-        return put_others(s, n, e, v);
-    }
-    put_row(s, n, e, v, edges)
-}
-
 // The sheet of n routes. The answer is how many entries it has.
-fn put_sheet(s: &mut [u8; ROOM], n: u32, edges: &[u8]) -> u32 {
+fn put_sheet(s: &mut [u8; LARGE], n: u32, edges: &[u8]) -> u32 {
     put_word(s, 0, n);
     put_word(s, 1, 0);
     let mut e = 0;
     let mut v = 0;
     while v < n {
-        e = put_either(s, n, e, v, edges);
+        e = put_row(s, n, e, v, edges);
         put_word(s, v as usize + 2, e);
         v += 1;
     }
@@ -231,25 +181,37 @@ fn begin_side_by_side(p: &mut [u32; ROUTES], k: u32) {
 }
 
 // A layout of n routes by its edges, from the pairs of a start.
-fn layout(name: &[u8], s: &mut [u8; ROOM], n: u32, edges: &[u8], start: &[u8]) {
+fn layout(name: &[u8], s: &mut [u8; LARGE], n: u32, edges: &[u8], start: &[u8]) {
     let mut p = [NONE; ROUTES];
     let mut label = [0u32; ROUTES];
     let total = put_sheet(s, n, edges);
     begin(&mut p, start);
-    searches(name, front(s, length(n, total)), n, &mut p, &mut label);
+    searches(
+        name,
+        front(s, sheet_length(n, total)),
+        n,
+        &mut p,
+        &mut label,
+    );
 }
 
 // All of n routes joined, the first of them paired side by side.
-fn all_of(name: &[u8], s: &mut [u8; ROOM], n: u32, paired: u32) {
+fn all_of(name: &[u8], s: &mut [u8; LARGE], n: u32, paired: u32) {
     let mut p = [NONE; ROUTES];
     let mut label = [0u32; ROUTES];
-    let total = put_sheet(s, n, b"");
+    let total = put_all(s, n);
     begin_side_by_side(&mut p, paired);
-    searches(name, front(s, length(n, total)), n, &mut p, &mut label);
+    searches(
+        name,
+        front(s, sheet_length(n, total)),
+        n,
+        &mut p,
+        &mut label,
+    );
 }
 
 // No ring is closed here.
-fn trees(s: &mut [u8; ROOM]) {
+fn trees(s: &mut [u8; LARGE]) {
     // a pair, and then no route is left
     layout(b"two joined", s, 2, b"01", b"");
     // both ends want the route between them
@@ -261,7 +223,7 @@ fn trees(s: &mut [u8; ROOM]) {
 }
 
 // One ring is closed.
-fn rings(s: &mut [u8; ROOM]) {
+fn rings(s: &mut [u8; LARGE]) {
     // all of it is one group, so that no route is inner
     layout(b"triangle", s, 3, b"01 02 12", b"");
     // 4 and the tail 5 have no partners; 0 is inner at first, and its edge to the tail is of use once the ring is a group
@@ -291,7 +253,7 @@ fn rings(s: &mut [u8; ROOM]) {
 }
 
 // Two rings, the one within the other.
-fn two_rings(s: &mut [u8; ROOM]) {
+fn two_rings(s: &mut [u8; LARGE]) {
     // 0 2 4 is a group, with 1 and 3 it is a ring; the path is 5 1 3 4 2 0, and comes into the inner ring at 4
     layout(
         b"ring within a ring",
@@ -319,7 +281,7 @@ fn two_rings(s: &mut [u8; ROOM]) {
 //                           1 = 2       the rings at 5, at 4 and at 1, and goes on through each of them to the base 0,
 //                            \ /        which is in the innermost.
 //                             0
-fn nested(s: &mut [u8; ROOM]) {
+fn nested(s: &mut [u8; LARGE]) {
     layout(
         b"three rings nested",
         s,
@@ -330,7 +292,7 @@ fn nested(s: &mut [u8; ROOM]) {
 }
 
 // All routes joined.
-fn complete(s: &mut [u8; ROOM]) {
+fn complete(s: &mut [u8; LARGE]) {
     // one pair more, and no route is left
     all_of(b"all of 4", s, 4, 2);
     // one route is left, and all are one group; entry numbers go above 65,535
@@ -338,7 +300,7 @@ fn complete(s: &mut [u8; ROOM]) {
 }
 
 fn main() {
-    let mut s = [0u8; ROOM];
+    let mut s = [0u8; LARGE];
     trees(&mut s);
     rings(&mut s);
     two_rings(&mut s);

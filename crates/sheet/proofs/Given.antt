@@ -14,11 +14,13 @@ use Rattle.theory.specs.Count.{all}
 use Rattle.theory.specs.Graph.{Graph, has, joined}
 use Rattle.theory.proofs.Count.{cases, clash, tests, all-at, all-of}
 use Rattle.rows.specs.Sheet.{Shaped, order, start, total, graphOf, named}
-use Rattle.sheet.specs.Reply.{refuses, first, firstOf, shaped, entryReply, rowReply, rowsReply, loopReply, replyOf}
+use Rattle.replies.specs.Reply.{refuses, first, firstOf}
+use Rattle.entries.specs.Entries.{entryReply, rowReply, rowsReply, loopReply}
+use Rattle.sheet.specs.Reply.{shaped, replyOf}
 use Rattle.sheet.specs.Conditions.{Readable, Clear, AllClear, Reached, NoLoop, Because}
-use Rattle.sheet.specs.declared.Reply.{Reply}
-use Rattle.sheet.specs.declared.Reply.the-variants.{Accepted, Short, TooMany, Contents, UnknownId, DuplicateEdge, MissingEdge, Loop}
-use Rattle.sheet.proofs.Firsts.{not-refused, first-fine, first-all, first-found, first-place}
+use Rattle.replies.specs.declared.Reply.{Reply}
+use Rattle.replies.specs.declared.Reply.the-variants.{Accepted, Short, TooMany, Contents, UnknownId, DuplicateEdge, MissingEdge, Loop}
+use Rattle.replies.proofs.Firsts.{not-refused, first-fine, first-all, first-found, first-place}
 
 -- ---- 3
 

@@ -17,7 +17,7 @@ use Rattle.rows.specs.Sheet.{Shaped, order, start, graphOf, named}
 use Rattle.rows.specs.Sheet as sheet
 use Rattle.sheet.specs.Reply.{replyOf}
 use Rattle.sheet.specs.Conditions.{Readable, Clear, AllClear, NoLoop}
-use Rattle.sheet.specs.declared.Reply.the-variants.{Accepted}
+use Rattle.replies.specs.declared.Reply.the-variants.{Accepted}
 use Rattle.sheet.proofs.Given.{given}
 use Rattle.rows.proofs.Slots.{start-le, row-length}
 use Rattle.rows.proofs.Stretches.{has-place}

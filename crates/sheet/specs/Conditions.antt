@@ -7,8 +7,8 @@ use lib.ListN.{length, drop}
 use Rattle.limits.specs.Limits.{routes}
 use Rattle.theory.specs.Graph.{Graph, has, joined}
 use Rattle.rows.specs.Sheet.{Shaped, order, graphOf, named}
-use Rattle.sheet.specs.declared.Reply.{Reply}
-use Rattle.sheet.specs.declared.Reply.the-variants.{Accepted, Short, TooMany, Contents, UnknownId, DuplicateEdge, MissingEdge, Loop}
+use Rattle.replies.specs.declared.Reply.{Reply}
+use Rattle.replies.specs.declared.Reply.the-variants.{Accepted, Short, TooMany, Contents, UnknownId, DuplicateEdge, MissingEdge, Loop}
 
 -- refusals 1 to 3 are not given
 pub record Readable (s : List ℕ) : Type 0 where

@@ -5,7 +5,7 @@ use mathlib.Core.List.{List}
 use Rattle.theory.specs.Graph.{edges}
 use Rattle.rows.specs.Sheet.{total, graphOf}
 use Rattle.sheet.specs.Reply.{replyOf}
-use Rattle.sheet.specs.declared.Reply.the-variants.{Accepted}
+use Rattle.replies.specs.declared.Reply.the-variants.{Accepted}
 
 -- k is half the entry total of any bytes, and of an accepted sheet the number of edges
 pub record Size (s : List ℕ) (k : ℕ) : Type 0 where

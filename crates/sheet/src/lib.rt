@@ -1,93 +1,18 @@
 // The sheet: the bytes in which a planner hands in which routes may stand together, and the reader that lets no bad
-// byte through. `check` answers refusals 1 to 7 for any bytes at all, in the order of the numbers; `entries` has the
-// checks of the entries and `marks` the table of who names whom, by which they take about as many steps as there are
-// entries. Below stand the crates `words`, four bytes and a number, and `rows`, a row as a stretch and the lookups.
-use crate::entries::reply_to_rows;
+// byte through. `check` answers refusals 1 to 7 for any bytes at all, in the order of the numbers. Below stand the crates
+// `words`, four bytes and a number, `rows`, a row as a stretch and the lookups, `replies`, what a sheet is answered, and
+// `entries`, the checks of the entries.
+use entries::reply_to_rows;
 use limits::ROUTES;
-use limits::Told;
+use replies::Reply;
 use words::word_at;
 ghost use mathlib.Core.Path.{_≡_};
 ghost use Prim.Native.Nat.{_+_};
 ghost use lib.Dec.{leb};
 ghost use Rattle.words.specs.Words.{word};
-ghost use Rattle.sheet.specs.Reply.{refuses, replyOf, shaped, toldOf};
+ghost use Rattle.sheet.specs.Reply.{replyOf, shaped};
 ghost use Rattle.sheet.specs.Size.{Size};
 ghost use Rattle.theory.specs.Count.{all};
-
-mod entries;
-mod marks;
-
-// What a sheet is answered. The names of the refused entries are those of the Rust's errors.
-pub enum Reply {
-    // nothing to refuse
-    Accepted,
-    // 1: fewer than 8 bytes
-    Short,
-    // 2: more routes than the limit
-    TooMany { n: u32 },
-    // 3: contents cut short, a first start that is not 0, a start that falls, or a wrong length
-    Contents,
-    // 4: an entry that is no route
-    UnknownId { entry: u32 },
-    // 5: an entry that stands again later in its row
-    DuplicateEdge { row: u32, entry: u32 },
-    // 6: an entry whose own row lacks the row's route
-    MissingEdge { entry: u32, row: u32 },
-    // 7: a route that is its own neighbour
-    Loop { route: u32 },
-}
-
-// Number, A and B of a reply.
-pub fn tell(r: Reply) -> Told
-    ensures { λ t. ⌜ t ≡ toldOf r ⌝ }
-{
-    match r {
-        Reply::Accepted => Told { no: 0, a: 0, b: 0 },
-        Reply::Short => Told { no: 1, a: 0, b: 0 },
-        Reply::TooMany { n } => Told {
-            no: 2,
-            a: n as u64,
-            b: ROUTES as u64,
-        },
-        Reply::Contents => Told { no: 3, a: 0, b: 0 },
-        Reply::UnknownId { entry } => Told {
-            no: 4,
-            a: entry as u64,
-            b: 0,
-        },
-        Reply::DuplicateEdge { row, entry } => Told {
-            no: 5,
-            a: row as u64,
-            b: entry as u64,
-        },
-        Reply::MissingEdge { entry, row } => Told {
-            no: 6,
-            a: entry as u64,
-            b: row as u64,
-        },
-        Reply::Loop { route } => Told {
-            no: 7,
-            a: route as u64,
-            b: 0,
-        },
-    }
-}
-
-// Whether a reply refuses.
-pub fn refuses(r: Reply) -> bool
-    ensures { λ b. ⌜ b ≡ refuses r ⌝ }
-{
-    match r {
-        Reply::Accepted => false,
-        Reply::Short => true,
-        Reply::TooMany { n: _ } => true,
-        Reply::Contents => true,
-        Reply::UnknownId { entry: _ } => true,
-        Reply::DuplicateEdge { row: _, entry: _ } => true,
-        Reply::MissingEdge { entry: _, row: _ } => true,
-        Reply::Loop { route: _ } => true,
-    }
-}
 
 // Whether no start is above the next one, n being the number of routes.
 fn starts_rise(s: &[u8], n: u32) -> bool

@@ -1,5 +1,5 @@
 -- The numbers of an answer, and that the number is 0 exactly where nothing is refused. Assumes nothing.
-use Prim.Native.Nat.{ℕ, suc, _-_, _*_, _≤_, _<_}
+use Prim.Native.Nat.{ℕ, suc, _*_}
 use mathlib.Core.Path.{_≡_, refl, sym, ap, _∙_}
 use mathlib.Core.Bool.{Bool, true, false, cond}
 use mathlib.Core.List.{List, [], _∷_}
@@ -7,7 +7,6 @@ use native.Mathlib.Omega.{arith}
 use lib.Dec.{eqb, ltb}
 use lib.IntN.{ℤ, subℕ}
 use lib.ListN.{length, getD}
-use borrow.Author.Tests.{lt-ltb, le-ltb}
 use Rattle.limits.specs.declared.Told.{Told}
 use Rattle.theory.specs.Count.{least}
 use Rattle.theory.specs.Graph.{Graph}
@@ -17,19 +16,21 @@ use Rattle.theory.proofs.Count.{cases, clash}
 use Rattle.words.specs.Words.{putLong, longsOf}
 use Rattle.words.proofs.Bytes.{put-three, put-four, put-five, put-seven}
 use Rattle.rows.specs.Sheet.{order, graphOf}
+use Rattle.replies.specs.Reply as replies
 use Rattle.sheet.specs.Reply as sheet
-use Rattle.sheet.specs.declared.Reply.{Reply}
-use Rattle.sheet.specs.declared.Reply.the-variants as reply
-use Rattle.witness.specs.Given.{mateOf, setOf}
-use Rattle.witness.specs.Cause.{causeOf, firstWrong, valueFor}
-use Rattle.witness.specs.Verdict.{toldOf, refuses, first, isCount, sheetVerdict, pairingLength, witnessLength, partnerVerdict, markVerdict, boundVerdict, improveVerdict, checkOf, surplusVerdict, surplusOf, partsVerdict, oddOf, membersOf}
+use Rattle.replies.specs.declared.Reply.{Reply}
+use Rattle.replies.specs.declared.Reply.the-variants as reply
+use Rattle.causes.specs.Given.{mateOf, setOf}
+use Rattle.causes.specs.Cause.{causeOf, firstWrong, valueFor}
+use Rattle.verdicts.specs.Verdict.{toldOf, refuses, first, sheetVerdict, pairingLength, witnessLength, partnerVerdict, markVerdict}
+use Rattle.witness.specs.Verdict.{isCount, boundVerdict, improveVerdict, checkOf, surplusVerdict, surplusOf, partsVerdict, oddOf, membersOf}
 use Rattle.witness.specs.Promise.{Checked, Surplus, Parted}
-use Rattle.witness.specs.declared.Verdict.{Verdict}
-use Rattle.witness.specs.declared.Verdict.the-variants.{Accepted, Sheet, PairingLength, WitnessLength, PartsLength, Partner, Mark, NotShown}
-use Rattle.improve.specs.Choice.{pairingAfter, witnessAfter, addedOf, sizeAfter, finishedOf, sessionsAfter}
+use Rattle.verdicts.specs.declared.Verdict.{Verdict}
+use Rattle.verdicts.specs.declared.Verdict.the-variants.{Accepted, Sheet, PairingLength, WitnessLength, PartsLength, Partner, Mark, NotShown}
+use Rattle.improve.specs.Choice.{addedOf, sizeAfter, finishedOf, sessionsAfter}
 use Rattle.improve.specs.Promise.{Improve}
-use Rattle.improve.proofs.Twice.{verdict-twice, pairing-twice, witness-twice, finished-twice, size-twice, sessions-twice, added-twice}
-use Rattle.wisharek.specs.Calls.{CheckCall, SurplusCall, PartsCall, ImproveCall, TwoCalls, twos}
+use Rattle.answers.specs.Twos.{twos}
+use Rattle.wisharek.specs.Calls.{CheckCall, SurplusCall, PartsCall, ImproveCall}
 
 -- ---- the number is 0 only where nothing is refused
 
@@ -51,7 +52,7 @@ sharp-cond false x y f g = g
 never : {C : Type 0} (k : ℕ) → suc k ≡ 0 → C
 never k h = absurd (omega arith)
 
-sharp-reply : (r : Reply) → sheet.refuses r ≡ true → Sharp (Sheet r)
+sharp-reply : (r : Reply) → replies.refuses r ≡ true → Sharp (Sheet r)
 sharp-reply reply.Accepted h = λ e. clash false h refl
 sharp-reply reply.Short h = never 0
 sharp-reply (reply.TooMany n) h = never 1
@@ -63,7 +64,7 @@ sharp-reply (reply.Loop v) h = never 6
 
 sharp-sheet : (s : List ℕ) → Sharp (sheetVerdict s)
 unfolding sheetVerdict
-sharp-sheet s = cases (sheet.refuses (sheet.replyOf s))
+sharp-sheet s = cases (replies.refuses (sheet.replyOf s))
     (λ t. rw t (sharp-reply (sheet.replyOf s) t))
     (λ t. rw t (λ e. refl))
 
@@ -107,14 +108,6 @@ sharp-check s pairing witness =
     let mark : Verdict = markVerdict (order s) witness in
     sharp-first (improveVerdict s pairing witness) (first mark bound) (sharp-improve s pairing witness)
     (sharp-first mark bound (sharp-mark (order s) witness) (sharp-bound (graphOf s) (mateOf pairing) (setOf witness)))
-
--- ---- two's complement
-
-pub twos-below : (odd size : ℕ) → odd < size → 18446744073709551615 - (size - odd - 1) ≡ twos (subℕ odd size)
-twos-below odd size h = let e : size - suc odd ≡ size - odd - 1 = omega arith in rw (lt-ltb _ _ h, e)
-
-pub twos-above : (odd size : ℕ) → size ≤ odd → odd - size ≡ twos (subℕ odd size)
-twos-above odd size h = rw (le-ltb _ _ h)
 
 -- ---- the calls
 
@@ -230,20 +223,3 @@ pub finished-passes : (s p p′ w w′ : List ℕ) (b : ℕ) (before after : Lis
     → (x x′ : List ℕ) (t : ℕ) → CheckCall s p′ w′ x x′ t → length x ≡ 24 → t ≡ 0
 finished-passes s p p′ w w′ b before after r f e z h x x′ t g k =
     g .answered k .number ∙ ap (λ (v : Verdict). toldOf v .no) (f .means e z .shown h)
-
--- ---- two calls
-
-module _ (s p p₁ p₂ w w₁ w₂ : List ℕ) (a b : ℕ) (x x′ y y′ : List ℕ) (r₁ r₂ : ℕ) where
-  pub two-calls : length x ≡ 56 → length y ≡ 56 → ImproveCall s p p₁ w w₁ a x x′ r₁ → ImproveCall s p₁ p₂ w₁ w₂ b y y′ r₂ → TwoCalls s p p₂ w w₂ a b x′ y′ r₂
-  two-calls ex ey f g =
-      let n = f .left ex in
-      let k = g .left ey in
-      let h : ImproveCall s (pairingAfter s p w a) p₂ (witnessAfter s p w a) w₂ b y y′ r₂ = rw (n .0, n .1) at g in
-      let i = h .left ey in
-      record {
-        left = (i .0 ∙ pairing-twice s p w a b, i .1 ∙ witness-twice s p w a b);
-        more = addedOf s (pairingAfter s p w a) (witnessAfter s p w a) b;
-        sum = added-twice s p w a b;
-        answered-first = (r₁, f .answered ex);
-        answered-second = rw (← verdict-twice s p w a b, ← size-twice s p w a b, ← finished-twice s p w a b, ← sessions-twice s p w a b) (h .answered ey);
-      }

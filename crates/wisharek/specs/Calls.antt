@@ -1,19 +1,20 @@
 -- The exported calls: for each the result, and what every byte of every buffer that may be written then holds. The sheet is lent to be read alone, and so
 -- are pairing and witness of the checker.
-use Prim.Native.Nat.{ℕ, _+_, _-_, _^_}
+use Prim.Native.Nat.{ℕ}
 use mathlib.Core.Path.{_≡_}
 use mathlib.Core.Logic.{_↔_}
 use mathlib.Core.List.{List, [], _∷_}
-use lib.IntN.{ℤ, pos, negsuc}
 use lib.ListN.{length}
 use Rattle.words.specs.Words.{longsOf}
 use Rattle.rows.specs.Sheet.{graphOf}
-use Rattle.witness.specs.Given.{mateOf}
-use Rattle.witness.specs.Verdict.{toldOf, improveVerdict, checkOf, surplusVerdict, surplusOf, partsVerdict, oddOf, membersOf, partsBytes}
+use Rattle.causes.specs.Given.{mateOf}
+use Rattle.verdicts.specs.Verdict.{toldOf}
+use Rattle.witness.specs.Verdict.{improveVerdict, checkOf, surplusVerdict, surplusOf, partsVerdict, oddOf, membersOf, partsBytes}
 use Rattle.witness.specs.Promise.{Shown, Maximum}
-use Rattle.witness.specs.declared.Verdict.{Verdict}
+use Rattle.verdicts.specs.declared.Verdict.{Verdict}
 use Rattle.improve.specs.Choice.{pairingAfter, witnessAfter, addedOf, sizeAfter, finishedOf, sessionsAfter}
 use Rattle.improve.specs.Promise.{Means}
+use Rattle.answers.specs.Twos.{twos}
 
 -- an answer buffer of another length than it should have: the result is 9, and nothing is written
 pub record Unanswered (before after : List ℕ) (r : ℕ) : Type 0 where
@@ -31,11 +32,6 @@ pub record CheckCall (s pairing witness before after : List ℕ) (r : ℕ) : Typ
   pub answered : length before ≡ 24 → Answered (checkOf s pairing witness) [] after r
   pub exactly : length before ≡ 24 → (r ≡ 0) ↔ Shown s pairing witness
   pub maximum : length before ≡ 24 → r ≡ 0 → Maximum (graphOf s) (mateOf pairing)
-
--- a signed number in two's complement of 64 bits
-abbrev pub twos : ℤ → ℕ
-twos (pos k) = k
-twos (negsuc k) = 2 ^ 64 - 1 - k
 
 -- wisharek_surplus
 pub record SurplusCall (s witness before after : List ℕ) (r : ℕ) : Type 0 where
@@ -60,12 +56,3 @@ pub record ImproveCall (s p p′ w w′ : List ℕ) (b : ℕ) (before after : Li
   pub untouched : length before ≡ 56 → (r ≡ 0 → ⊥) → (p′ ≡ p) × (w′ ≡ w)
   -- and an accepted call means what the customer demands
   pub means : length before ≡ 56 → r ≡ 0 → Means s p p′ w w′ b (addedOf s p w b) (sizeAfter s p w b) (finishedOf s p w b) (sessionsAfter s p w b)
-
--- two calls in a row on the same pairing and witness, with the budgets a and b. They leave the bytes that one call with the budget a + b leaves; the second
--- answers what that one answers, but for the pairs added; and those of both sum up to its
-pub record TwoCalls (s p p′ w w′ : List ℕ) (a b : ℕ) (first second : List ℕ) (r : ℕ) : Type 0 where
-  pub left : (p′ ≡ pairingAfter s p w (a + b)) × (w′ ≡ witnessAfter s p w (a + b))
-  pub answered-first : (x : ℕ) × Answered (improveVerdict s p w) (addedOf s p w a ∷ sizeAfter s p w a ∷ finishedOf s p w a ∷ sessionsAfter s p w a ∷ []) first x
-  pub more : ℕ
-  pub sum : addedOf s p w a + more ≡ addedOf s p w (a + b)
-  pub answered-second : Answered (improveVerdict s p w) (more ∷ sizeAfter s p w (a + b) ∷ finishedOf s p w (a + b) ∷ sessionsAfter s p w (a + b) ∷ []) second r

@@ -18,16 +18,18 @@ use Rattle.theory.proofs.Count.{cases, clash, least-first, least-passes}
 use Rattle.theory.proofs.Bound.{no-more-pairs}
 use Rattle.theory.proofs.Plan.{no-fewer-sessions}
 use Rattle.rows.specs.Sheet.{order, graphOf}
+use Rattle.replies.specs.Reply as replies
 use Rattle.sheet.specs.Reply as sheet
-use Rattle.sheet.specs.declared.Reply.the-variants as reply
-use Rattle.sheet.proofs.Firsts.{not-refused}
+use Rattle.replies.specs.declared.Reply.the-variants as reply
+use Rattle.replies.proofs.Firsts.{not-refused}
 use Rattle.sheet.proofs.Read.{simple, order-most}
-use Rattle.witness.specs.Given.{mateOf, setOf}
-use Rattle.witness.specs.Cause.{causeOf, wrong, firstWrong}
-use Rattle.witness.specs.Verdict.{refuses, first, isCount, sheetVerdict, pairingLength, witnessLength, partnerVerdict, markVerdict, boundVerdict, improveVerdict, checkOf, surplusVerdict, partsLength, partsVerdict}
+use Rattle.causes.specs.Given.{mateOf, setOf}
+use Rattle.causes.specs.Cause.{causeOf, wrong, firstWrong}
+use Rattle.verdicts.specs.Verdict.{refuses, first, sheetVerdict, pairingLength, witnessLength, partnerVerdict, markVerdict, partsLength}
+use Rattle.witness.specs.Verdict.{isCount, boundVerdict, improveVerdict, checkOf, surplusVerdict, partsVerdict}
 use Rattle.witness.specs.Promise.{PairingBytes, Begins, Shown, Maximum, Checked}
-use Rattle.witness.specs.declared.Verdict.{Verdict}
-use Rattle.witness.specs.declared.Verdict.the-variants.{Accepted, Sheet, PairingLength, WitnessLength, PartsLength, Partner, Mark, NotShown}
+use Rattle.verdicts.specs.declared.Verdict.{Verdict}
+use Rattle.verdicts.specs.declared.Verdict.the-variants.{Accepted, Sheet, PairingLength, WitnessLength, PartsLength, Partner, Mark, NotShown}
 
 -- ---- a check that accepts
 
@@ -53,7 +55,7 @@ first-iff x y = (
 sheet-iff : (s : List ℕ) → (sheetVerdict s ≡ Accepted) ↔ (sheet.replyOf s ≡ reply.Accepted)
 unfolding sheetVerdict
 sheet-iff s = (
-  λ h. cases (sheet.refuses (sheet.replyOf s))
+  λ h. cases (replies.refuses (sheet.replyOf s))
       (λ t. let e : Sheet (sheet.replyOf s) ≡ Accepted = rw t at h in let z : _≡_ {A = ℕ} 0 1 = cc in absurd (omega arith))
       (λ t. not-refused (sheet.replyOf s) t),
   λ h. rw h,

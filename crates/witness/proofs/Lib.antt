@@ -1,5 +1,3 @@
-mod Causes
+-- For the crates above: Checker (what an accepted pairing is). Verdicts is for the proofs of this crate's functions alone.
 mod Verdicts
-mod Signed
-mod Weights
 pub mod Checker

@@ -1,25 +1,26 @@
 -- The checks in turn, and the two that compute. Assumes nothing.
-use Prim.Native.Nat.{ℕ, zero, suc, _+_, _-_, _≤_, _<_}
-use mathlib.Core.Path.{_≡_, refl, sym, ap, _∙_}
-use mathlib.Core.Bool.{Bool, true, false, cond}
+use Prim.Native.Nat.{ℕ, _+_, _-_}
+use mathlib.Core.Path.{_≡_, sym, ap, _∙_}
+use mathlib.Core.Bool.{Bool, true, false}
 use mathlib.Core.List.{List}
 use native.Mathlib.Omega.{arith}
 use lib.Dec.{eqb, ltb}
-use lib.IntN.{ℤ, pos, negsuc, subℕ}
-use lib.ListN.{length, getD}
-use borrow.Author.Tests.{eq-eqb, ne-eqb, lt-ltb, le-ltb, ltb-true, ltb-false, eqb-true, eqb-false}
-use Rattle.theory.specs.Count.{least, count}
+use lib.IntN.{ℤ, pos, subℕ}
+use borrow.Author.Tests.{eq-eqb, ne-eqb, ltb-true, ltb-false, eqb-true, eqb-false}
+use Rattle.theory.specs.Count.{count}
 use Rattle.theory.specs.Graph.{Graph}
 use Rattle.theory.specs.Surplus.{oddParts, surplus}
 use Rattle.theory.specs.Pairing.{unpaired}
-use Rattle.theory.proofs.Count.{cases, clash, least-at, least-end}
-use Rattle.witness.specs.Verdict.{refuses, first, isCount, markVerdict, boundVerdict, surplusVerdict, surplusOf, partsVerdict, partName, oddOf, membersOf, partsBytes}
-use Rattle.witness.specs.Promise.{Parted, Weighs}
+use Rattle.theory.proofs.Count.{cases}
+use Rattle.verdicts.specs.Verdict.{refuses, first}
+use Rattle.witness.specs.Verdict.{isCount, boundVerdict, surplusVerdict, surplusOf, partsVerdict, oddOf, membersOf, partsBytes}
+use Rattle.witness.specs.Promise.{Parted}
 use Rattle.words.specs.Words.{bytesTo}
-use Rattle.witness.specs.Given.{setOf}
+use Rattle.causes.specs.Given.{setOf}
+use Rattle.weights.specs.Weight.{Weighs, partName}
 use Rattle.rows.specs.Sheet.{order, graphOf}
-use Rattle.witness.specs.declared.Verdict.{Verdict}
-use Rattle.witness.specs.declared.Verdict.the-variants.{Accepted, Mark, NotShown}
+use Rattle.verdicts.specs.declared.Verdict.{Verdict}
+use Rattle.verdicts.specs.declared.Verdict.the-variants.{Accepted, NotShown}
 
 -- a check that refuses is the answer, and one that does not hands on
 pub stops : (x y r : Verdict) (b : Bool) → r ≡ x → b ≡ refuses r → b ≡ true → r ≡ first x y
@@ -27,24 +28,6 @@ stops x y r b e f t = e ∙ rw (sym (ap refuses e) ∙ sym f ∙ t)
 
 pub goes-on : (x y z r : Verdict) (b : Bool) → r ≡ x → b ≡ refuses r → b ≡ false → z ≡ y → z ≡ first x y
 goes-on x y z r b e f t h = h ∙ rw (sym (ap refuses e) ∙ sym f ∙ t)
-
--- 11
-module _ (n : ℕ) (witness : List ℕ) where
-  abbrev above : ℕ → Bool
-  above k = ltb 1 (getD witness k 0)
-
-  module _ (k : ℕ) (p : least k above ≡ k) where
-    pub mark-at : k < n → (b : ℕ) → b ≡ getD witness k 0 → 1 < b → Mark k b ≡ markVerdict n witness
-    unfolding markVerdict
-    mark-at l b e h =
-        let m : least n above ≡ k = least-at above k n l p (rw (← e) (lt-ltb _ _ h)) in
-        rw (m, lt-ltb _ _ l, ← e)
-
-    pub mark-none : k ≤ n → n ≤ k → Accepted ≡ markVerdict n witness
-    unfolding markVerdict
-    mark-none h l =
-        let m : least n above ≡ n = least-end above k n h l p in
-        rw (m, le-ltb n n (omega arith))
 
 -- 12: the bound by counts alone
 pub count-sub : (a b u : ℕ) → isCount (subℕ a b) u ≡ eqb a (u + b)

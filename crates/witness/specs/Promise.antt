@@ -2,28 +2,24 @@
 use Prim.Native.Nat.{ℕ, _*_, _≤_, _<_}
 use mathlib.Core.Path.{_≡_}
 use mathlib.Core.Logic.{_↔_, _⊎_}
-use mathlib.Core.Bool.{Bool, true, false}
+use mathlib.Core.Bool.{true, false}
 use mathlib.Core.List.{List}
 use lib.IntN.{ℤ, pos, subℕ}
 use lib.ListN.{length, getD}
 use Rattle.limits.specs.Limits.{routes, none}
-use Rattle.theory.specs.Count.{count}
 use Rattle.theory.specs.Graph.{Graph}
-use Rattle.theory.specs.Surplus.{oddParts, surplus}
+use Rattle.theory.specs.Surplus.{surplus}
 use Rattle.theory.specs.Pairing.{Pairing, pairs, unpaired, sessions}
 use Rattle.theory.specs.Plan.{Session, Plan}
 use Rattle.rows.specs.Sheet.{order, graphOf}
 use Rattle.sheet.specs.Reply.{replyOf}
-use Rattle.sheet.specs.declared.Reply.the-variants as sheet
-use Rattle.witness.specs.Given.{mateOf, setOf}
-use Rattle.witness.specs.Verdict.{refuses, checkOf, surplusVerdict, surplusOf, partsVerdict, oddOf, membersOf, partsBytes}
-use Rattle.witness.specs.declared.Verdict.{Verdict}
-use Rattle.witness.specs.declared.Verdict.the-variants as verdict
-
--- odd is the number of odd parts that are left without the set, and size how many routes are in it
-pub record Weighs (g : Graph) (A : ℕ → Bool) (odd size : ℕ) : Type 0 where
-  pub parts : odd ≡ oddParts g A
-  pub members : size ≡ count (g .order) A
+use Rattle.replies.specs.declared.Reply.the-variants as sheet
+use Rattle.causes.specs.Given.{mateOf, setOf}
+use Rattle.weights.specs.Weight.{Weighs}
+use Rattle.verdicts.specs.Verdict.{refuses}
+use Rattle.witness.specs.Verdict.{checkOf, surplusVerdict, surplusOf, partsVerdict, oddOf, membersOf, partsBytes}
+use Rattle.verdicts.specs.declared.Verdict.{Verdict}
+use Rattle.verdicts.specs.declared.Verdict.the-variants as verdict
 
 -- the bytes are a pairing of the graph: four for each route, each partner none or a neighbour that names the route back
 pub record PairingBytes (s pairing : List ℕ) : Type 0 where

@@ -4,8 +4,9 @@ use Prim.Native.Nat.{_≤_, _-_}
 use mathlib.Core.Path.{_≡_, refl}
 use native.Mathlib.Omega.{arith}
 use lib.ListN.{length}
-use Rattle.drive.specs.Answers.{laid}
-use Rattle.drive.proofs.Steps.{Leads, leads-start, leads-next, leads-end, answers-end, end-after}
+use Rattle.laid.specs.Answers.{laid}
+use Rattle.lent.proofs.Ends.{end-after}
+use Rattle.drive.proofs.Steps.{Leads, leads-start, leads-next, leads-end, answers-end}
 use borrow.Author.Needs.{needs}
 use Rattle.drive.proofs.perform_all.Statement.{statement}
 use Rattle.drive.proofs.perform_all.Tie as tie

@@ -6,9 +6,9 @@ use Rattle.theory.specs.Pairing.{paired, unpaired}
 use Rattle.theory.proofs.Count.{count-le}
 use Rattle.rows.specs.Sheet.{order, graphOf}
 use Rattle.sheet.proofs.Read.{order-most}
-use Rattle.witness.specs.Given.{mateOf}
+use Rattle.causes.specs.Given.{mateOf}
 use Rattle.witness.proofs.Verdicts.{bound-met, bound-unmet}
-use Rattle.witness.proofs.Weights.{size-most, unpaired-most}
+use Rattle.weights.proofs.Weights.{size-most, unpaired-most}
 use borrow.Author.Needs.{needs}
 use Rattle.witness.proofs.bound_verdict.Statement.{statement}
 use Rattle.witness.proofs.bound_verdict.Tie as tie

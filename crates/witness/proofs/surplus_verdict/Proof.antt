@@ -1,7 +1,5 @@
 -- `surplus_verdict` meets its contract: the checks in turn. Assumes nothing.
-use mathlib.Core.Path.{ap, _∙_}
-use Prim.Native.Nat.{ℕ}
-use Rattle.witness.specs.Verdict.{surplusVerdict, witnessLength, markVerdict}
+use Rattle.witness.specs.Verdict.{surplusVerdict}
 use Rattle.witness.proofs.Verdicts.{stops, goes-on}
 use borrow.Author.Needs.{needs}
 use Rattle.witness.proofs.surplus_verdict.Statement.{statement}

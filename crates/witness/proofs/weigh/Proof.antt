@@ -4,10 +4,10 @@ use native.Mathlib.Omega.{arith}
 use denote.Ref.{now}
 use mir.Facts.{toZ-ofZ}
 use Rattle.theory.proofs.Count.{clash}
-use Rattle.witness.proofs.Signed.{small-fits}
+use Rattle.weights.proofs.Signed.{small-fits}
 use Rattle.witness.proofs.Checker.{passed-surplus}
 use Rattle.witness.proofs.Verdicts.{surplus-refused, surplus-given}
-use Rattle.witness.proofs.Weights.{odd-most, size-most, surplus-by}
+use Rattle.weights.proofs.Weights.{odd-most, size-most, surplus-by}
 use borrow.Author.Needs.{needs}
 use Rattle.witness.proofs.weigh.Statement.{statement}
 use Rattle.witness.proofs.weigh.Tie as tie

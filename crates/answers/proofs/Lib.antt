@@ -1,0 +1,2 @@
+-- Twos is for the proof of `twos_of` alone.
+mod Twos

@@ -1,0 +1,2 @@
+-- To be believed: Twos, a signed number as an answer holds it.
+pub mod Twos

@@ -1,0 +1,2 @@
+-- To be believed: Held, what the lent bytes of a pairing hold.
+pub mod Held

@@ -1,0 +1,2 @@
+-- Quick is for the proofs of this crate's functions alone.
+mod Quick

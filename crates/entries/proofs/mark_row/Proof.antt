@@ -1,0 +1,42 @@
+-- `mark_row` meets its contract. The invariant: marking what is left of the row leads to the end. Assumes nothing.
+use Prim.Native.Nat.{_≤_, _-_, _/_}
+use mathlib.Core.Path.{_≡_, refl, sym, _∙_}
+use lib.ListN.{length, drop}
+use Rattle.words.specs.Words.{numbers, over}
+use Rattle.marks.specs.Marks.{mark}
+use Rattle.entries.specs.Quick.{markRow}
+use Rattle.words.proofs.Bytes.{over-again, over-end}
+use borrow.Author.Needs.{needs}
+use Rattle.entries.proofs.mark_row.Statement.{statement}
+use Rattle.entries.proofs.mark_row.Tie as tie
+
+abbrev Inv-loop : tie.InvT-loop
+Inv-loop row v t₀ m i₀ t i = (i ≤ m) × (m ≡ length row / 4) × (over (λ k w u. mark u v w) t i (drop i (numbers row)) ≡ over (λ k w u. mark u v w) t₀ 0 (numbers row))
+
+abbrev μ-loop : tie.MeasureT-loop
+μ-loop row v t₀ m i₀ t i = m - i
+
+loop-again : tie.Need-loop-again Inv-loop μ-loop
+loop-again c =
+    let l = c .before .before .before .before .loop in
+    (search needs, refl, over-again _ _ _ _ _ (l .i) (c .before .before .before .loop-test .taken) (l .inv .2) (rw (← c .before .word-at .ensures) (c .mark .ensures)))
+
+returns : tie.Need-returns Inv-loop μ-loop
+unfolding markRow
+returns c =
+    let l = c .before .loop in
+    over-end _ _ _ _ (l .i) (c .loop-test .left) (l .inv .2)
+
+pub mark-row-spec : {M : Type 1} → statement M
+mark-row-spec =
+    tie.close
+    (tie.spec
+    Inv-loop
+    μ-loop
+    (λ c. (search needs, refl, refl))
+    (λ c κs. search needs)
+    (λ c κs. search needs)
+    (λ c. search needs)
+    (λ c. search needs)
+    loop-again
+    returns)

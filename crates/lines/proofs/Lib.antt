@@ -1,0 +1,2 @@
+-- Said is for the proofs of this crate's functions alone.
+mod Said

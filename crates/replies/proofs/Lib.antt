@@ -1,0 +1,2 @@
+-- For the crates above: Firsts (the first refusal, turn by turn, and when it is which).
+pub mod Firsts
