@@ -6,13 +6,13 @@ use lib.ListN.{getD}
 use lib.Dec.{eqb}
 use Rattle.limits.specs.Limits.{none}
 use Rattle.limits.specs.Answer.{told}
-use Rattle.theory.specs.Count.{bit}
-use Rattle.refusals.specs.Partners.{idAt}
+use Rattle.graphs.specs.Count.{bit}
+use Rattle.mates.specs.Partners.{idAt}
 use Rattle.refusals.specs.Reply.{toldOf}
 use Rattle.pairing.specs.Answers.{orderAnswer, hasNodeAnswer, pairAnswer, edgesAnswer, augmentAnswer, mateAnswer}
 use Rattle.pairing.specs.declared.Pairing.{Pairing}
 use Rattle.pairing.specs.declared.Next.{Next}
-use Rattle.pairing.specs.declared.Edges.{Edges}
+use Rattle.listing.specs.declared.Edges.{Edges}
 use Rattle.asked.specs.declared.Reply.{Reply}
 
 -- `order`: the value is how many ids are paired

@@ -6,7 +6,7 @@ use pairing::Next;
 use pairing::Pairing;
 use pairing::tell;
 ghost use mathlib.Core.Path.{_≡_};
-ghost use Rattle.theory.specs.Count.{bit};
+ghost use Rattle.graphs.specs.Count.{bit};
 ghost use Rattle.asked.specs.Replies.{orderReply, hasNodeReply, edgesReply, mateReply, nextReply, unknownReply, replyTo};
 
 // The codes.

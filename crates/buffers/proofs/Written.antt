@@ -5,8 +5,8 @@ use mathlib.Core.List.{List, map}
 use native.Mathlib.Omega.{arith}
 use lib.ListN.{length, getD, length-map}
 use Rattle.limits.specs.Limits.{routes}
-use Rattle.theory.specs.Parts.{run}
-use Rattle.theory.proofs.Parts.{map-at, run-length, run-at}
+use Rattle.graphs.specs.Parts.{run}
+use Rattle.graphs.proofs.Parts.{map-at, run-length, run-at}
 use Rattle.words.specs.Words.{word}
 use Rattle.buffers.specs.Held.{partnersOf}
 

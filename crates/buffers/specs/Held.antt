@@ -2,8 +2,8 @@
 use Prim.Native.Nat.{ℕ}
 use mathlib.Core.List.{List, map}
 use Rattle.limits.specs.Limits.{routes}
-use Rattle.theory.specs.Parts.{run}
-use Rattle.theory.specs.Pairing.{pairs, sessions}
+use Rattle.graphs.specs.Parts.{run}
+use Rattle.graphs.specs.Pairing.{pairs, sessions}
 use Rattle.words.specs.Words.{word}
 use Rattle.rows.specs.Sheet.{graphOf}
 use Rattle.causes.specs.Given.{mateOf}

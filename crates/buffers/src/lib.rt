@@ -1,8 +1,8 @@
 // The lent bytes of pairing and witness: read into a table, and written from one. And the size of a pairing, read from
 // its bytes.
+use counts::plus;
 use limits::NONE;
 use limits::ROUTES;
-use parts::plus;
 use rows::order;
 use tables::INNER;
 use tables::at;
@@ -15,7 +15,7 @@ ghost use Prim.Native.Nat.{_*_};
 ghost use lib.Dec.{ltb};
 ghost use lib.ListN.{length};
 ghost use Rattle.limits.specs.Limits.{routes};
-ghost use Rattle.theory.specs.Parts.{run};
+ghost use Rattle.graphs.specs.Parts.{run};
 ghost use Rattle.theory.specs.Search.Tables.{cell};
 ghost use Rattle.theory.specs.Search.Searched.{mark};
 ghost use Rattle.words.specs.Words.{bytesTo};

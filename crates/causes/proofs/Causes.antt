@@ -8,10 +8,10 @@ use lib.Dec.{eqb, ltb, leb}
 use lib.ListN.{length}
 use borrow.Author.Tests.{eq-eqb, ne-eqb, lt-ltb, le-ltb, le-leb, lt-leb, ltb-true, ltb-false}
 use Rattle.limits.specs.Limits.{none}
-use Rattle.theory.specs.Count.{count, least}
-use Rattle.theory.specs.Graph.{Graph, joined}
-use Rattle.theory.specs.Pairing.{unpaired}
-use Rattle.theory.proofs.Count.{cases, least-at, least-past, least-end}
+use Rattle.graphs.specs.Count.{count, least}
+use Rattle.graphs.specs.Graph.{Graph, joined}
+use Rattle.graphs.specs.Pairing.{unpaired}
+use Rattle.graphs.proofs.Count.{cases, least-at, least-past, least-end}
 use Rattle.words.specs.Words.{numbers}
 use Rattle.rows.specs.Sheet.{order, stretch, graphOf}
 use Rattle.rows.specs.Lookup.{place}

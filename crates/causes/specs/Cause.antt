@@ -3,8 +3,8 @@ use Prim.Native.Nat.{ℕ}
 use mathlib.Core.Bool.{Bool, true, false, cond}
 use lib.Dec.{eqb, ltb}
 use Rattle.limits.specs.Limits.{none}
-use Rattle.theory.specs.Count.{least}
-use Rattle.theory.specs.Graph.{Graph, joined}
+use Rattle.graphs.specs.Count.{least}
+use Rattle.graphs.specs.Graph.{Graph, joined}
 use Rattle.causes.specs.declared.Cause.{Cause}
 use Rattle.causes.specs.declared.Cause.the-variants.{Sound, NoRoute, Itself, Stranger, OneSided}
 

@@ -2,7 +2,7 @@
 use Prim.Native.Nat.{ℕ}
 use mathlib.Core.Bool.{Bool}
 use mathlib.Core.List.{List}
-use Rattle.theory.specs.Graph.{inSet}
+use Rattle.graphs.specs.Graph.{inSet}
 use Rattle.words.specs.Words.{word}
 
 -- the partner of a route, or none

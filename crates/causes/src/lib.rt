@@ -1,12 +1,12 @@
 // Refusal 10: what is wrong with a route's partner, and the lowest route with a wrong one. And how many have none.
+use counts::plus;
 use limits::NONE;
-use parts::plus;
 use rows::order;
 use rows::place;
 use rows::row;
 use words::word_at;
 ghost use mathlib.Core.Path.{_≡_};
-ghost use Rattle.theory.specs.Pairing.{unpaired};
+ghost use Rattle.graphs.specs.Pairing.{unpaired};
 ghost use Rattle.rows.specs.Sheet.{graphOf};
 ghost use Rattle.causes.specs.Given.{mateOf};
 ghost use Rattle.causes.specs.Cause.{causeOf, wrong, firstWrong};

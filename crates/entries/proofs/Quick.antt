@@ -12,8 +12,8 @@ use borrow.Author.Tests.{eqb-true, eqb-false, eq-eqb, ltb-true, lt-ltb, le-ltb}
 use lib.ListN.{length, getD, drop, replicate, length-set, length-replicate}
 use lib.Seq.{getD-set-same, getD-set-other}
 use Rattle.limits.specs.Limits.{routes, none}
-use Rattle.theory.specs.Graph.{Graph, has, joined}
-use Rattle.theory.proofs.Count.{cases, clash, same-test, and-false}
+use Rattle.graphs.specs.Graph.{Graph, has, joined}
+use Rattle.graphs.proofs.Count.{cases, clash, same-test, and-false}
 use Rattle.words.specs.Words.{word, numbers, over}
 use Rattle.rows.specs.Sheet.{order, stretch, graphOf}
 use Rattle.replies.specs.Reply.{refuses, first, firstOf}

@@ -4,7 +4,7 @@ use mathlib.Core.Bool.{cond}
 use lib.ListN.{length, getD, drop}
 use lib.Dec.{ltb}
 use Rattle.limits.specs.Limits.{none}
-use Rattle.theory.specs.Graph.{Graph, has, joined}
+use Rattle.graphs.specs.Graph.{Graph, has, joined}
 use Rattle.replies.specs.Reply.{firstOf}
 use Rattle.replies.specs.declared.Reply.{Reply}
 use Rattle.replies.specs.declared.Reply.the-variants.{Accepted, UnknownId, DuplicateEdge, MissingEdge, Loop}

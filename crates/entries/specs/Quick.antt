@@ -6,7 +6,7 @@ use mathlib.Core.List.{List}
 use lib.ListN.{length, getD, set, replicate}
 use lib.Dec.{ltb}
 use Rattle.limits.specs.Limits.{routes, none}
-use Rattle.theory.specs.Graph.{Graph}
+use Rattle.graphs.specs.Graph.{Graph}
 use Rattle.words.specs.Words.{over}
 use Rattle.replies.specs.Reply.{firstOf}
 use Rattle.replies.specs.declared.Reply.{Reply}

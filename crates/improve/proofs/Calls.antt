@@ -7,8 +7,8 @@ use native.Mathlib.Omega.{arith}
 use lib.Dec.{ltb}
 use lib.ListN.{getD}
 use Rattle.limits.specs.Limits.{none}
-use Rattle.theory.specs.Pairing.{paired, pairs, sessions}
-use Rattle.theory.proofs.Count.{clash, count-le}
+use Rattle.graphs.specs.Pairing.{paired, pairs, sessions}
+use Rattle.graphs.proofs.Count.{clash, count-le}
 use Rattle.words.specs.Words.{bytesTo}
 use Rattle.rows.specs.Sheet.{order, graphOf}
 use Rattle.causes.specs.Given.{mateOf}

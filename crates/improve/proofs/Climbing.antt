@@ -5,9 +5,9 @@ use mathlib.Core.Bool.{Bool, true, false, not}
 use mathlib.Core.List.{List, map}
 use native.Mathlib.Omega.{arith}
 use lib.ListN.{take}
-use Rattle.theory.specs.Graph.{Graph}
+use Rattle.graphs.specs.Graph.{Graph}
 use Rattle.theory.specs.Search.Searched.{Outcome, found, stuck, mark, after, searchedIn, improvedIn}
-use Rattle.theory.proofs.Count.{clash}
+use Rattle.graphs.proofs.Count.{clash}
 use Rattle.theory.proofs.Search.Steps.{improved-again}
 use Rattle.theory.proofs.Search.Improved.{improved-left}
 use Rattle.search.specs.Answer.{answer, Answers}

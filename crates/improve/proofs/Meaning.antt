@@ -10,12 +10,12 @@ use lib.ListN.{length, getD, List·getD-eq-default}
 use lib.Seq.{ext-getD}
 use borrow.Author.Tests.{ltb-true, ltb-false}
 use Rattle.limits.specs.Limits.{routes, none}
-use Rattle.theory.specs.Graph.{Graph, Simple}
-use Rattle.theory.specs.Pairing.{Pairing, pairs, unpaired}
-use Rattle.theory.specs.Largest.{Largest}
+use Rattle.graphs.specs.Graph.{Graph, Simple}
+use Rattle.graphs.specs.Pairing.{Pairing, pairs, unpaired}
+use Rattle.graphs.specs.Largest.{Largest}
 use Rattle.theory.specs.Search.Searched.{Outcome, found, stuck}
 use Rattle.theory.specs.Search.Promise as search
-use Rattle.theory.proofs.Count.{cases}
+use Rattle.graphs.proofs.Count.{cases}
 use Rattle.theory.proofs.Search.Cells.{getD-any}
 use Rattle.theory.proofs.Search.Improved.{improved-tidy, improved-length, largest-some, promise}
 use Rattle.words.specs.Words.{bytesTo}

@@ -9,12 +9,12 @@ use lib.ListN.{length, getD, take, length-map, List·getD-eq-default}
 use lib.Seq.{getD-take, ext-getD}
 use borrow.Author.Tests.{lt-ltb, ltb-true, ltb-false}
 use Rattle.limits.specs.Limits.{routes, none}
-use Rattle.theory.specs.Parts.{run}
+use Rattle.graphs.specs.Parts.{run}
 use Rattle.theory.specs.Search.Tables.{cell}
 use Rattle.theory.specs.Search.Searched.{Outcome, found, stuck, mark, searchedIn, improvedIn}
-use Rattle.theory.proofs.Count.{cases}
+use Rattle.graphs.proofs.Count.{cases}
 use Rattle.theory.proofs.Search.Cells.{getD-any}
-use Rattle.theory.proofs.Parts.{map-at}
+use Rattle.graphs.proofs.Parts.{map-at}
 use Rattle.words.specs.Words.{bytesTo}
 use Rattle.rows.specs.Sheet.{order, graphOf}
 use Rattle.sheet.proofs.Read.{order-most}

@@ -6,8 +6,8 @@ use mathlib.Core.Logic.{_↔_, _⊎_}
 use mathlib.Core.Bool.{true}
 use mathlib.Core.List.{List}
 use lib.ListN.{length}
-use Rattle.theory.specs.Largest.{Largest}
-use Rattle.theory.specs.Plan.{Session, Plan}
+use Rattle.graphs.specs.Largest.{Largest}
+use Rattle.graphs.specs.Plan.{Session, Plan}
 use Rattle.rows.specs.Sheet.{order, graphOf}
 use Rattle.causes.specs.Given.{mateOf}
 use Rattle.verdicts.specs.Verdict.{refuses}

@@ -9,9 +9,9 @@ use lib.ListN.{length}
 use lib.Dec.{eqb, ltb}
 use borrow.Author.Tests.{eqb-true, eqb-false, ltb-true, ltb-false}
 use Rattle.limits.specs.Limits.{routes, none}
-use Rattle.theory.proofs.Count.{cases}
-use Rattle.refusals.specs.Partners.{mateOf, Sound, paired, idAt, after, Pairable, augmented}
-use Rattle.refusals.proofs.Sound.{paired-sound, paired-first, paired-second, paired-other, paired-cases}
+use Rattle.graphs.proofs.Count.{cases}
+use Rattle.mates.specs.Partners.{mateOf, Sound, paired, idAt, after, Pairable, augmented}
+use Rattle.mates.proofs.Sound.{paired-sound, paired-first, paired-second, paired-other, paired-cases}
 
 pub after-none : (path ps : List ℕ) → after 0 path ps ≡ ps
 unfolding after

@@ -6,13 +6,13 @@ use mathlib.Core.List.{List}
 use native.Mathlib.Omega.{arith}
 use lib.ListN.{length}
 use Rattle.limits.specs.Limits.{routes}
-use Rattle.theory.specs.Count.{bit}
-use Rattle.theory.proofs.Count.{count-le}
-use Rattle.refusals.specs.Partners.{isPaired, countOf, Sound, freed, paired, idAt, after, augmented}
+use Rattle.graphs.specs.Count.{bit}
+use Rattle.graphs.proofs.Count.{count-le}
+use Rattle.mates.specs.Partners.{isPaired, countOf, Sound, freed, paired, idAt, after, augmented}
 use Rattle.refusals.specs.Reply.{pathReply}
 use Rattle.refusals.specs.declared.Refusal.the-variants.{Accepted}
 use Rattle.refusals.proofs.Replies.{path-accepted}
-use Rattle.refusals.proofs.Sound.{paired-count, freed-count, freed-sound}
+use Rattle.mates.proofs.Sound.{paired-count, freed-count, freed-sound}
 use Rattle.joins.proofs.Paths.{after-next, after-sound}
 
 pub count-fits : (ps : List ℕ) → countOf ps ≤ routes

@@ -1,13 +1,13 @@
 // New pairs in the table of partners, and how many ids are paired then: two ids, and a whole path two by two. The crate
 // `pairing` calls both behind its checks.
 use limits::ROUTES;
+use mates::free;
 use refusals::checks::id_at;
-use refusals::partners::free;
 ghost use mathlib.Core.Path.{_≡_};
 ghost use mathlib.Core.Logic.{_≢_};
 ghost use Prim.Native.Nat.{_<_};
 ghost use Rattle.limits.specs.Limits.{routes};
-ghost use Rattle.refusals.specs.Partners.{Sound, countOf, paired, augmented};
+ghost use Rattle.mates.specs.Partners.{Sound, countOf, paired, augmented};
 ghost use Rattle.refusals.specs.Reply.{pathReply};
 ghost use Rattle.refusals.specs.declared.Refusal.the-variants.{Accepted};
 

@@ -9,8 +9,8 @@ use lib.Seq.{sets, set-out}
 use lib.Dec.{ltb}
 use borrow.Author.Tests.{ltb-true, ltb-false, lt-ltb, le-ltb}
 use Rattle.limits.specs.Limits.{none}
-use Rattle.theory.proofs.Count.{cases}
-use Rattle.pairing.specs.declared.Edges.{Edges}
+use Rattle.graphs.proofs.Count.{cases}
+use Rattle.listing.specs.declared.Edges.{Edges}
 use Rattle.laid.specs.Answers.{Laid, laid, put, lay}
 use Rattle.asked.specs.Replies.{pairsOf}
 

@@ -8,7 +8,7 @@ use lib.Seq.{take-nil, take-all}
 use lib.Dec.{ltb}
 use borrow.Author.Tests.{ltb-true, ltb-false, lt-ltb, le-ltb}
 use Rattle.limits.specs.Limits.{none}
-use Rattle.theory.proofs.Count.{cases}
+use Rattle.graphs.proofs.Count.{cases}
 use Rattle.lent.specs.Operations.{endOf, idsAt}
 
 -- ---- the place after an operation

@@ -8,11 +8,11 @@ use lib.ListN.{length, getD, set, drop, length-map, drop-of-length-le, List·get
 use lib.Seq.{ext-getD, drop-cons, getD-set-same, getD-set-other}
 use lib.Dec.{eqb}
 use borrow.Author.Tests.{eqb-true, eqb-false}
-use Rattle.theory.specs.Parts.{run}
-use Rattle.theory.proofs.Count.{cases}
-use Rattle.theory.proofs.Parts.{run-length, run-at}
+use Rattle.graphs.specs.Parts.{run}
+use Rattle.graphs.proofs.Count.{cases}
+use Rattle.graphs.proofs.Parts.{run-length, run-at}
 use Rattle.words.specs.Words.{putWord, over}
-use Rattle.refusals.proofs.Sound.{same-default}
+use Rattle.mates.proofs.Sound.{same-default}
 use Rattle.lent.specs.State.{putWords}
 
 -- the first k places of a table hold the first k values of f

@@ -2,7 +2,7 @@
 use Prim.Native.Nat.{ℕ}
 use mathlib.Core.List.{List, map}
 use Rattle.limits.specs.Limits.{routes}
-use Rattle.theory.specs.Parts.{run}
+use Rattle.graphs.specs.Parts.{run}
 use Rattle.words.specs.Words.{word, putWord, over}
 use Rattle.pairing.specs.declared.Pairing.{Pairing}
 

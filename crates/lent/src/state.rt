@@ -7,7 +7,7 @@ use words::word_at;
 ghost use mathlib.Core.Path.{_≡_};
 ghost use mathlib.Core.List.{map};
 ghost use Rattle.limits.specs.Limits.{routes};
-ghost use Rattle.theory.specs.Parts.{run};
+ghost use Rattle.graphs.specs.Parts.{run};
 ghost use Rattle.words.specs.Words.{word};
 ghost use Rattle.lent.specs.State.{pairingOf, putWords, putPairing};
 

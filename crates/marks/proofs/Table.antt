@@ -13,8 +13,8 @@ use borrow.Author.Tests.{eqb-true, eqb-false, eq-eqb, ne-eqb, ltb-true, ltb-fals
 use lib.ListN.{length, getD, length-set, getD-replicate}
 use lib.Seq.{getD-set-same, getD-set-other}
 use Rattle.limits.specs.Limits.{routes}
-use Rattle.theory.specs.Count.{bit}
-use Rattle.theory.proofs.Count.{cases, same-test, tests, and-false}
+use Rattle.graphs.specs.Count.{bit}
+use Rattle.graphs.proofs.Count.{cases, same-test, tests, and-false}
 use Rattle.marks.specs.Marks.{bitAt, withBit, wordOf, bitOf, marked, mark, unmarked}
 
 -- ---- bits

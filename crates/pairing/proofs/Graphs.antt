@@ -9,14 +9,14 @@ use lib.ListN.{length}
 use lib.Dec.{ltb}
 use borrow.Author.Tests.{ltb-true, ltb-false, lt-ltb}
 use Rattle.limits.specs.Limits.{routes, none}
-use Rattle.theory.specs.Graph.{Graph, Simple, joined}
-use Rattle.theory.specs.Count.{count}
-use Rattle.theory.specs.Pairing.{Pairing, pairs, unpaired, paired as paired-in}
-use Rattle.theory.proofs.Pairing.{mate-moves}
-use Rattle.theory.proofs.Count.{cases, same-test, count-cong, count-not}
-use Rattle.refusals.specs.Partners.{mateOf, isPaired, countOf, Sound, fresh, isLower, lowers, paired, idAt, Pairable, after, augmented}
-use Rattle.refusals.proofs.Sound.{mate-id, mate-back, fresh-mate, paired-sound, paired-cases}
-use Rattle.pairing.proofs.Pairs.{rising-length, order-twice}
+use Rattle.graphs.specs.Graph.{Graph, Simple, joined}
+use Rattle.graphs.specs.Count.{count}
+use Rattle.graphs.specs.Pairing.{Pairing, pairs, unpaired, paired as paired-in}
+use Rattle.graphs.proofs.Pairing.{mate-moves}
+use Rattle.graphs.proofs.Count.{cases, same-test, count-cong, count-not}
+use Rattle.mates.specs.Partners.{mateOf, isPaired, countOf, Sound, fresh, isLower, lowers, paired, idAt, Pairable, after, augmented}
+use Rattle.mates.proofs.Sound.{mate-id, mate-back, fresh-mate, paired-sound, paired-cases}
+use Rattle.listing.proofs.Pairs.{rising-length, order-twice}
 use Rattle.joins.proofs.Paths.{after-sound}
 
 -- ids from k on do not pass: none is counted there

@@ -6,12 +6,12 @@ use mathlib.Core.List.{List, [], _∷_}
 use lib.Dec.{eqb, ltb}
 use borrow.Author.Tests.{ltb-true, ltb-false, le-leb, lt-leb}
 use Rattle.limits.specs.Limits.{routes}
-use Rattle.theory.specs.Count.{least}
-use Rattle.theory.proofs.Count.{cases}
-use Rattle.refusals.specs.Partners.{countOf, Sound, Pairable, fresh, paired, augmented}
+use Rattle.graphs.specs.Count.{least}
+use Rattle.graphs.proofs.Count.{cases}
+use Rattle.mates.specs.Partners.{countOf, Sound, Pairable, fresh, paired, augmented}
 use Rattle.refusals.specs.Reply.{pairingReply, idReply, pairReply, unknown, selfPair, pathReply}
 use Rattle.refusals.specs.declared.Refusal.the-variants.{Accepted}
-use Rattle.refusals.proofs.Sound.{fresh-sound, fresh-count, paired-sound}
+use Rattle.mates.proofs.Sound.{fresh-sound, fresh-count, paired-sound}
 use Rattle.refusals.proofs.Replies.{sound-accepted}
 use Rattle.pairing.specs.Answers.{pairAnswer, augmentAnswer}
 use Rattle.pairing.specs.declared.Pairing.{Pairing}

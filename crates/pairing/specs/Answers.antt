@@ -1,19 +1,18 @@
 -- What each operation answers, for any pairing and any ids: its refusal, or the next pairing, or what was asked.
-use Prim.Native.Nat.{ℕ, _-_, _/_}
+use Prim.Native.Nat.{ℕ}
 use mathlib.Core.Bool.{false, cond}
-use mathlib.Core.List.{List, [], map, _++_}
-use lib.ListN.{length, replicate}
-use Rattle.limits.specs.Limits.{routes, none}
-use Rattle.refusals.specs.Partners.{mateOf, isPaired, countOf, paired, augmented, lowers}
+use mathlib.Core.List.{List, []}
+use Rattle.mates.specs.Partners.{mateOf, isPaired, countOf, paired, augmented}
 use Rattle.refusals.specs.Reply.{refuses, first, pairingReply, idReply, pairReply, pathReply, mateReply}
 use Rattle.refusals.specs.declared.Refusal.{Refusal}
 use Rattle.refusals.specs.declared.Refusal.the-variants.{Accepted}
+use Rattle.listing.specs.Listing.{padded, edgesIn}
+use Rattle.listing.specs.declared.Edges.{Edges}
 use Rattle.pairing.specs.declared.Pairing.{Pairing}
 use Rattle.pairing.specs.declared.Next.{Next}
 use Rattle.pairing.specs.declared.Order.{Order}
 use Rattle.pairing.specs.declared.Node.{Node}
 use Rattle.pairing.specs.declared.Mate.{Mate}
-use Rattle.pairing.specs.declared.Edges.{Edges}
 
 -- the pairing with these partners, and with the right count
 abbrev pub kept : List ℕ → Pairing
@@ -52,16 +51,6 @@ unfoldable pub mateAnswer : Pairing → ℕ → Mate
 mateAnswer p i =
     let r = replyTo p (mateReply (p .partner) i) in
     cond (refuses r) (record { refusal = r; id = 0 }) (record { refusal = Accepted; id = mateOf (p .partner) i })
-
--- a table of half the routes that begins with these ids; the places past them hold none
-unfoldable pub padded : List ℕ → List ℕ
-padded xs = xs ++ replicate (routes / 2 - length xs) none
-
--- the pairs by lower id, rising: the lower ids in one table, their partners in the other
-unfoldable pub edgesIn : List ℕ → Edges
-edgesIn ps =
-    let ids = lowers ps in
-    record { refusal = Accepted; count = length ids; lower = padded ids; upper = padded (map (mateOf ps) ids) }
 
 -- `edges`: those of a pairing; no pairs where it is refused
 unfoldable pub edgesAnswer : Pairing → Edges

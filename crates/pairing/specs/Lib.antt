@@ -1,2 +1,2 @@
--- To be believed, with Partners and Reply of the crate refusals: Answers (what each operation answers).
+-- To be believed, with Partners of the crate mates, Reply of the crate refusals and Listing of the crate listing: Answers (what each operation answers).
 pub mod Answers

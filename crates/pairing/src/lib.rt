@@ -1,11 +1,17 @@
 // A pairing by itself: for each id its partner, and how many ids have one. It is one value of fixed size. Each operation
 // takes the pairing by value and checks it before all else; `pair` and `augment` hand back the next one, or the same one
-// where they are refused, and the others, which take a copy as well, answer what was asked. Below stands the crate
-// `refusals`: the table of partners, and the refusals in the order of their numbers, and `joins`: new pairs in the table.
+// where they are refused, and the others, which take a copy as well, answer what was asked. Below stand the crates
+// `mates`: the table of partners, `refusals`: the refusals in the order of their numbers, `joins`: new pairs in the table, and
+// `listing`: the pairs of the table, by lower id.
 use joins::join;
 use joins::join_all;
 use limits::NONE;
 use limits::ROUTES;
+pub use listing::Edges;
+pub use listing::HALF;
+use listing::list_all;
+use mates::is_paired;
+use mates::partner_of;
 pub use refusals::Refusal;
 use refusals::checks::first;
 use refusals::checks::id_refusal;
@@ -14,21 +20,13 @@ use refusals::checks::pair_refusal;
 use refusals::checks::pairing_refusal;
 use refusals::checks::path_refusal;
 use refusals::checks::refuses;
-use refusals::partners::IDS;
-use refusals::partners::is_paired;
-use refusals::partners::partner_of;
 pub use refusals::tell;
 ghost use mathlib.Core.Path.{_≡_};
-ghost use mathlib.Core.Bool.{true, cond};
-ghost use Prim.Native.Nat.{ℕ, _+_, _/_, _<_};
-ghost use lib.ListN.{getD, set};
+ghost use Prim.Native.Nat.{ℕ, _<_};
+ghost use lib.ListN.{getD};
 ghost use Rattle.limits.specs.Limits.{routes, none};
-ghost use Rattle.theory.specs.Count.{bit};
-ghost use Rattle.refusals.specs.Partners.{Sound, mateOf, fresh, paired, isLower};
-ghost use Rattle.pairing.specs.Answers.{kept, pairAnswer, augmentAnswer, orderAnswer, hasNodeAnswer, mateAnswer, edgesIn, edgesAnswer};
-
-// The most pairs that there can be.
-pub const HALF: usize = ROUTES / 2;
+ghost use Rattle.mates.specs.Partners.{fresh};
+ghost use Rattle.pairing.specs.Answers.{kept, pairAnswer, augmentAnswer, orderAnswer, hasNodeAnswer, mateAnswer, edgesAnswer};
 
 // For each id its partner, or none, and how many ids have a partner.
 pub struct Pairing {
@@ -58,61 +56,6 @@ pub struct Node {
 pub struct Mate {
     pub refusal: Refusal,
     pub id: u32,
-}
-
-// What `edges` answers: a count beside two tables, in which the places past the count hold none.
-pub struct Edges {
-    pub refusal: Refusal,
-    pub count: usize,
-    pub lower: [u32; HALF],
-    pub upper: [u32; HALF],
-}
-
-// The pair of which id is the lower one, if there is such a pair, put at place n of the tables; the answer is the place
-// after it.
-fn list(
-    t: &[u32; ROUTES],
-    id: u32,
-    n: usize,
-    lower: &mut [u32; HALF],
-    upper: &mut [u32; HALF],
-) -> usize
-    requires { ⌜ (isLower (now t) id ≡ true → n < routes / 2) ⌝ }
-    ensures place { λ r. ⌜ r ≡ n + bit (isLower (now (t .entry)) id) ⌝ }
-    ensures lowers { λ _. ⌜ now (lower .exit) ≡ cond (isLower (now (t .entry)) id) (set (now (lower .entry)) n id) (now (lower .entry)) ⌝ }
-    ensures uppers { λ _. ⌜ now (upper .exit) ≡ cond (isLower (now (t .entry)) id) (set (now (upper .entry)) n (mateOf (now (t .entry)) id)) (now (upper .entry)) ⌝ }
-{
-    let m = partner_of(t, id);
-    if IDS <= m {
-        return n;
-    }
-    if m <= id {
-        return n;
-    }
-    lower[n] = id;
-    upper[n] = m;
-    n + 1
-}
-
-// All pairs, by lower id, rising.
-fn list_all(t: &[u32; ROUTES]) -> Edges
-    requires { ⌜ Sound (now t) ⌝ }
-    ensures { λ r. ⌜ r ≡ edgesIn (now (t .entry)) ⌝ }
-{
-    let mut lower = [NONE; HALF];
-    let mut upper = [NONE; HALF];
-    let mut n = 0;
-    let mut i = 0;
-    while i < IDS {
-        n = list(t, i, n, &mut lower, &mut upper);
-        i += 1;
-    }
-    Edges {
-        refusal: Refusal::Accepted,
-        count: n,
-        lower,
-        upper,
-    }
 }
 
 impl Pairing {

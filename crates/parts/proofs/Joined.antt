@@ -9,10 +9,10 @@ use lib.Dec.{eqb}
 use lib.ListN.{length, getD, drop, length-map}
 use borrow.Author.Tests.{eq-eqb, ne-eqb}
 use Rattle.limits.specs.Limits.{none}
-use Rattle.theory.specs.Graph.{Graph, has, inSet, joined}
-use Rattle.theory.specs.Parts.{run, merge, join, link, linkRow, linkRows, parts}
-use Rattle.theory.proofs.Count.{cases}
-use Rattle.theory.proofs.Parts.{join-equal}
+use Rattle.graphs.specs.Graph.{Graph, has, inSet, joined}
+use Rattle.graphs.specs.Parts.{run, merge, join, link, linkRow, linkRows, parts}
+use Rattle.graphs.proofs.Count.{cases}
+use Rattle.graphs.proofs.Parts.{join-equal}
 use Rattle.words.specs.Words.{word, numbers, over}
 use Rattle.words.proofs.Bytes.{over-again, over-end, numbers-at, numbers-length}
 use Rattle.rows.specs.Sheet.{order, stretch, graphOf}

@@ -1,3 +1,2 @@
-pub mod Counted
 mod Joined
 mod Swept

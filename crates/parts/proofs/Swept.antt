@@ -8,8 +8,8 @@ use native.Mathlib.Numerals.{add-one}
 use native.Mathlib.Nat.{not-suc-le-zero, eq-or-lt-of-le, le-of-suc-le-suc}
 use lib.ListN.{length, getD, set, length-set, length-map}
 use lib.Seq.{getD-set-same, getD-set-other, ext-getD}
-use Rattle.theory.specs.Parts.{run}
-use Rattle.theory.proofs.Parts.{map-at, run-length, run-at}
+use Rattle.graphs.specs.Parts.{run}
+use Rattle.graphs.proofs.Parts.{map-at, run-length, run-at}
 
 -- cell i becomes f i of what it held, for each i below k
 unfoldable pub swept : (ℕ → ℕ → ℕ) → ℕ → List ℕ → List ℕ

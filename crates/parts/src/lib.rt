@@ -1,17 +1,14 @@
 // The parts that a graph falls into without the routes of a set: for each route the least route of its part, as a table
-// that each entry of each row merges; and how many parts have an odd number of routes. One loop reads the sheet
-// (`link_rows`, row by row), all else takes tables. A merge is made only where two names differ, so there are fewer
-// merges than routes.
+// that each entry of each row merges. One loop reads the sheet (`join_rows`, row by row), all else takes tables. A merge is
+// made only where two names differ, so there are fewer merges than routes.
 use rows::row;
 use words::word_at;
 ghost use mathlib.Core.Path.{_≡_};
 ghost use mathlib.Core.List.{map};
-ghost use Prim.Native.Nat.{_+_, _<_, min};
+ghost use Prim.Native.Nat.{_<_, min};
 ghost use lib.ListN.{length};
-ghost use Rattle.theory.specs.Count.{bit, count};
-ghost use Rattle.theory.specs.Graph.{inSet};
-ghost use Rattle.theory.specs.Parts.{run, merge, link, linkRow, linkRows, parts};
-ghost use Rattle.theory.specs.Surplus.{inPart, oddRoot};
+ghost use Rattle.graphs.specs.Graph.{inSet};
+ghost use Rattle.graphs.specs.Parts.{run, merge, link, linkRow, linkRows, parts};
 ghost use Rattle.words.specs.Words.{numbers};
 ghost use Rattle.rows.specs.Sheet.{order, graphOf};
 ghost use Rattle.parts.specs.Parts.{Fits, Ready};
@@ -112,80 +109,4 @@ pub fn part_names(s: &[u8], set: &[u8], c: &mut [u32])
 {
     name_each(c);
     join_rows(s, set, c);
-}
-
-// One more where b, in a count that has room.
-pub fn plus(k: u32, b: bool) -> u32
-    requires { ⌜ k < 4294967295 ⌝ }
-    ensures { λ r. ⌜ r ≡ bit b + k ⌝ }
-{
-    if b {
-        return k + 1;
-    }
-    k
-}
-
-// Whether v is outside the set and of the part r.
-fn in_part(c: &[u32], set: &[u8], r: u32, v: usize) -> bool
-    requires { ⌜ (v < length (now c)) × (v < length (now set)) ⌝ }
-    ensures { λ b. ⌜ b ≡ inPart (now (c .entry)) (inSet (now (set .entry))) r v ⌝ }
-{
-    if set[v] == 1 {
-        return false;
-    }
-    c[v] == r
-}
-
-// How many routes are of the part r.
-fn part_size(c: &[u32], set: &[u8], r: u32) -> u32
-    requires { ⌜ (length (now set) ≡ length (now c)) × (length (now c) < 4294967295) ⌝ }
-    ensures { λ k. ⌜ k ≡ count (length (now (c .entry))) (inPart (now (c .entry)) (inSet (now (set .entry))) r) ⌝ }
-{
-    let mut k = 0;
-    let mut i = 0;
-    while i < c.len() {
-        k = plus(k, in_part(c, set, r, i));
-        i += 1;
-    }
-    k
-}
-
-// Whether r names a part that has an odd number of routes.
-fn odd_root(c: &[u32], set: &[u8], r: u32) -> bool
-    requires { ⌜ (length (now set) ≡ length (now c)) × (length (now c) < 4294967295) × (r < length (now c)) ⌝ }
-    ensures { λ b. ⌜ b ≡ oddRoot (length (now (c .entry))) (now (c .entry)) (inSet (now (set .entry))) r ⌝ }
-{
-    if in_part(c, set, r, r as usize) {
-        return part_size(c, set, r) % 2 == 1;
-    }
-    false
-}
-
-// How many parts have an odd number of routes.
-pub fn odd_parts(c: &[u32], set: &[u8]) -> u32
-    requires { ⌜ (length (now set) ≡ length (now c)) × (length (now c) < 4294967295) ⌝ }
-    ensures { λ k. ⌜ k ≡ count (length (now (c .entry))) (oddRoot (length (now (c .entry))) (now (c .entry)) (inSet (now (set .entry)))) ⌝ }
-{
-    let n = c.len() as u32;
-    let mut k = 0;
-    let mut r = 0;
-    while r < n {
-        k = plus(k, odd_root(c, set, r));
-        r += 1;
-    }
-    k
-}
-
-// How many routes are in the set.
-pub fn set_size(set: &[u8]) -> u32
-    requires { ⌜ length (now set) < 4294967295 ⌝ }
-    ensures { λ k. ⌜ k ≡ count (length (now (set .entry))) (inSet (now (set .entry))) ⌝ }
-{
-    let mut k = 0;
-    let mut i = 0;
-    while i < set.len() {
-        k = plus(k, set[i] == 1);
-        i += 1;
-    }
-    k
 }

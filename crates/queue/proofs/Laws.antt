@@ -6,10 +6,10 @@ use mathlib.Core.List.{List, [], _∷_}
 use native.Mathlib.Omega.{arith}
 use borrow.Author.Tests.{lt-ltb}
 use Rattle.limits.specs.Limits.{routes, none}
-use Rattle.theory.specs.Graph.{Graph}
+use Rattle.graphs.specs.Graph.{Graph}
 use Rattle.theory.specs.Search.Tables.{cell, Tables}
 use Rattle.theory.specs.Search.Look.{look, scanRow, turn, run}
-use Rattle.theory.proofs.Count.{cases, clash}
+use Rattle.graphs.proofs.Count.{cases, clash}
 use Rattle.theory.proofs.Search.Steps as steps
 use Rattle.words.specs.Words.{numbers}
 use Rattle.rows.specs.Sheet.{stretch, graphOf}

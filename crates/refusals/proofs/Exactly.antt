@@ -9,9 +9,9 @@ use lib.ListN.{length}
 use lib.Dec.{eqb, ltb, leb}
 use borrow.Author.Tests.{eqb-true, eqb-false, eq-eqb, ne-eqb, ltb-true, ltb-false, lt-ltb, leb-true, leb-false, le-leb, lt-leb, not-true, not-false}
 use Rattle.limits.specs.Limits.{routes}
-use Rattle.theory.specs.Count.{least}
-use Rattle.theory.proofs.Count.{cases, clash, least-first, least-passes, least-is}
-use Rattle.refusals.specs.Partners.{mateOf, countOf, fits, idAt}
+use Rattle.graphs.specs.Count.{least}
+use Rattle.graphs.proofs.Count.{cases, clash, least-first, least-passes, least-is}
+use Rattle.mates.specs.Partners.{mateOf, countOf, fits, idAt}
 use Rattle.refusals.specs.Reply.{refuses, misfit, pairingReply, unknown, selfPair, pathReply}
 use Rattle.refusals.specs.declared.Refusal.the-variants.{BadPartner, WrongCount, OddPath, NoSuchId, SelfPair}
 

@@ -9,8 +9,8 @@ use lib.ListN.{length}
 use lib.Dec.{eqb, ltb, leb}
 use borrow.Author.Tests.{eqb-true, eqb-false, eq-eqb, ne-eqb, ltb-true, ltb-false, lt-ltb, leb-false, lt-leb, not-true, not-false}
 use Rattle.limits.specs.Limits.{routes, none}
-use Rattle.theory.proofs.Count.{cases, clash, tests, or-cases, or-right, least-first, least-passes}
-use Rattle.refusals.specs.Partners.{mateOf, countOf, fits, Sound, idAt, Pairable}
+use Rattle.graphs.proofs.Count.{cases, clash, tests, or-cases, or-right, least-first, least-passes}
+use Rattle.mates.specs.Partners.{mateOf, countOf, fits, Sound, idAt, Pairable}
 use Rattle.refusals.specs.Reply.{refuses, first, misfit, pairingReply, idReply, pairReply, unknown, selfPair, pathReply}
 use Rattle.refusals.specs.declared.Refusal.{Refusal}
 use Rattle.refusals.specs.declared.Refusal.the-variants.{Accepted, BadPartner, WrongCount, OddPath, NoSuchId, SelfPair, Unpaired}

@@ -1,4 +1,2 @@
--- Both are to be believed: Partners (who is whose partner, pairing and augmenting, over the list of partners), Reply (the refusals and their
--- order).
-pub mod Partners
+-- To be believed, with Partners of the crate mates: Reply (the refusals and their order).
 pub mod Reply

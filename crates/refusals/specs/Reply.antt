@@ -7,8 +7,8 @@ use lib.Dec.{eqb, ltb, leb}
 use Rattle.limits.specs.Limits.{routes}
 use Rattle.limits.specs.Answer.{told}
 use Rattle.limits.specs.declared.Told.{Told}
-use Rattle.theory.specs.Count.{least}
-use Rattle.refusals.specs.Partners.{mateOf, isPaired, countOf, fits, idAt}
+use Rattle.graphs.specs.Count.{least}
+use Rattle.mates.specs.Partners.{mateOf, isPaired, countOf, fits, idAt}
 use Rattle.refusals.specs.declared.Refusal.{Refusal}
 use Rattle.refusals.specs.declared.Refusal.the-variants.{Accepted, BadPartner, WrongCount, OddPath, NoSuchId, SelfPair, Unpaired}
 

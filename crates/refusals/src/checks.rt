@@ -1,13 +1,13 @@
 // The refusals, in the order in which they are tried.
 use crate::Refusal;
-use crate::partners::IDS;
-use crate::partners::is_paired;
-use crate::partners::paired_ids;
-use crate::partners::partner_of;
 use limits::NONE;
 use limits::ROUTES;
+use mates::IDS;
+use mates::is_paired;
+use mates::paired_ids;
+use mates::partner_of;
 ghost use mathlib.Core.Path.{_≡_};
-ghost use Rattle.refusals.specs.Partners.{idAt, fits};
+ghost use Rattle.mates.specs.Partners.{idAt, fits};
 ghost use Rattle.refusals.specs.Reply.{refuses, first, misfit, pairingReply, idReply, pairReply, unknown, selfPair, pathReply, mateReply};
 
 // Whether a reply refuses.

@@ -1,5 +1,5 @@
-// Why an operation on a pairing is refused, and with which numbers: 10 and 13 to 16. `partners` has the table of partners,
-// `checks` the refusals in the order in which they are tried. The operations themselves stand in the crate `pairing`.
+// Why an operation on a pairing is refused, and with which numbers: 10 and 13 to 16. `checks` has the refusals in the order
+// in which they are tried. The table of partners stands in the crate `mates`, the operations themselves in `pairing`.
 use limits::ROUTES;
 use limits::Told;
 ghost use mathlib.Core.Path.{_≡_};
@@ -7,7 +7,6 @@ ghost use Rattle.limits.specs.Answer.{told};
 ghost use Rattle.refusals.specs.Reply.{toldOf};
 
 pub mod checks;
-pub mod partners;
 
 // Why an operation is refused.
 pub enum Refusal {

@@ -6,7 +6,7 @@ use mathlib.Core.Bool.{Bool, true, false, cond}
 use native.Mathlib.Omega.{arith}
 use native.Mathlib.Numerals.{add-one}
 use native.Mathlib.Nat.{eq-or-lt-of-le, le-of-suc-le-suc, not-suc-le-zero}
-use Rattle.theory.proofs.Count.{cases, clash}
+use Rattle.graphs.proofs.Count.{cases, clash}
 use Rattle.replies.specs.Reply.{refuses, first, firstOf}
 use Rattle.replies.specs.declared.Reply.{Reply}
 use Rattle.replies.specs.declared.Reply.the-variants.{Accepted, Short, TooMany, Contents, UnknownId, DuplicateEdge, MissingEdge, Loop}

@@ -9,7 +9,7 @@ use lib.ListN.{length, length-append}
 use borrow.Author.Tests.{lt-ltb}
 use Rattle.limits.specs.Limits.{routes}
 use Rattle.limits.specs.declared.Told.{Told}
-use Rattle.theory.proofs.Count.{cases, tests}
+use Rattle.graphs.proofs.Count.{cases, tests}
 use Rattle.rows.specs.Sheet.{order}
 use Rattle.sheet.proofs.Read.{order-most}
 use Rattle.causes.specs.Given.{mateOf, setOf}

@@ -9,9 +9,9 @@ use native.Mathlib.Omega.{arith}
 use lib.Dec.{ltb}
 use lib.ListN.{length-replicate, getD-replicate}
 use Rattle.limits.specs.Limits.{routes, none}
-use Rattle.theory.specs.Largest.{Largest}
-use Rattle.theory.specs.Pairing.{pairs, paired}
-use Rattle.theory.proofs.Count.{count-le}
+use Rattle.graphs.specs.Largest.{Largest}
+use Rattle.graphs.specs.Pairing.{pairs, paired}
+use Rattle.graphs.proofs.Count.{count-le}
 use Rattle.rows.specs.Sheet.{order, graphOf}
 use Rattle.words.proofs.Bytes.{word-there}
 use Rattle.sheet.specs.Reply.{replyOf}

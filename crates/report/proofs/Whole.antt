@@ -10,9 +10,9 @@ use lib.Seq.{take-all, length-take-le}
 use borrow.Author.Tests.{ltb-true, ltb-false, lt-ltb, le-ltb}
 use Rattle.limits.specs.Limits.{routes}
 use Rattle.limits.specs.declared.Told.{Told}
-use Rattle.theory.specs.Pairing.{unpaired, sessions}
-use Rattle.theory.proofs.Count.{cases}
-use Rattle.theory.proofs.Pairing.{pairs-unpaired}
+use Rattle.graphs.specs.Pairing.{unpaired, sessions}
+use Rattle.graphs.proofs.Count.{cases}
+use Rattle.graphs.proofs.Pairing.{pairs-unpaired}
 use Rattle.rows.specs.Sheet.{order, graphOf}
 use Rattle.sheet.proofs.Read.{order-most, simple}
 use Rattle.causes.specs.Given.{mateOf}

@@ -6,7 +6,7 @@ use mathlib.Core.Bool.{cond}
 use mathlib.Core.List.{List, [], _∷_, _++_}
 use lib.Dec.{ltb}
 use lib.ListN.{length, take, drop, replicate}
-use Rattle.theory.specs.Pairing.{unpaired}
+use Rattle.graphs.specs.Pairing.{unpaired}
 use Rattle.rows.specs.Sheet.{order, graphOf}
 use Rattle.causes.specs.Given.{mateOf}
 use Rattle.verdicts.specs.Verdict.{toldOf, refuses}

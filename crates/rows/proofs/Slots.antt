@@ -11,8 +11,8 @@ use lib.Dec.{ltb}
 use lib.ListN.{length, getD, take, drop, length-take, length-drop}
 use lib.Seq.{getD-take, getD-drop}
 use borrow.Author.Tests.{ltb-true, ltb-false, lt-ltb, le-leb}
-use Rattle.theory.specs.Graph.{Graph}
-use Rattle.theory.proofs.Count.{cases}
+use Rattle.graphs.specs.Graph.{Graph}
+use Rattle.graphs.proofs.Count.{cases}
 use Rattle.words.specs.Words.{four, word, numbers}
 use Rattle.rows.specs.Sheet.{Shaped, order, start, total, entry, slot, part, stretch, graphOf, named}
 use Rattle.words.proofs.Bytes.{word-there, numbers-length, numbers-at}

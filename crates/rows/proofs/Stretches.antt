@@ -9,10 +9,10 @@ use lib.Dec.{eqb, ltb}
 use lib.ListN.{length, getD}
 use borrow.Author.Tests.{eqb-true, eq-eqb, ltb-true, ltb-false, lt-ltb, le-ltb}
 use Rattle.limits.specs.Limits.{none}
-use Rattle.theory.specs.Count.{least}
-use Rattle.theory.specs.Graph.{has, joined}
-use Rattle.theory.proofs.Count.{cases, clash, same-test, least-passes, least-found}
-use Rattle.theory.proofs.Graph.{has-head, has-tail, has-cases}
+use Rattle.graphs.specs.Count.{least}
+use Rattle.graphs.specs.Graph.{has, joined}
+use Rattle.graphs.proofs.Count.{cases, clash, same-test, least-passes, least-found}
+use Rattle.graphs.proofs.Graph.{has-head, has-tail, has-cases}
 use Rattle.words.specs.Words.{word, numbers}
 use Rattle.rows.specs.Sheet.{order, start, slot, part, stretch, graphOf}
 use Rattle.rows.specs.Lookup.{place, neighborsOf, edgeOf}

@@ -5,8 +5,8 @@ use mathlib.Core.List.{List}
 use lib.ListN.{length, getD}
 use lib.Dec.{eqb, ltb}
 use Rattle.limits.specs.Limits.{none}
-use Rattle.theory.specs.Count.{least}
-use Rattle.theory.specs.Graph.{Graph, joined}
+use Rattle.graphs.specs.Count.{least}
+use Rattle.graphs.specs.Graph.{Graph, joined}
 use Rattle.rows.specs.Sheet.{order, start, slot, graphOf}
 use Rattle.rows.specs.declared.Edge.{Edge}
 use Rattle.rows.specs.declared.Edge.the-variants as edge

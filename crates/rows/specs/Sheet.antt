@@ -6,7 +6,7 @@ use mathlib.Core.List.{List, []}
 use lib.ListN.{length, getD, take, drop}
 use lib.Dec.{ltb, leb}
 use Rattle.limits.specs.Limits.{none}
-use Rattle.theory.specs.Graph.{Graph}
+use Rattle.graphs.specs.Graph.{Graph}
 use Rattle.words.specs.Words.{word, numbers}
 
 -- n, the number of routes

@@ -14,7 +14,7 @@ pub const SMALL: usize = 160;
 pub const ALL: u32 = 4294967295;
 
 // Entry numbers end here: no sheet that is accepted has as many entries.
-const ENTRIES: u32 = 262144;
+const ENTRIES: u32 = (ROUTES * ROUTES) as u32;
 
 // Counts end here.
 const COUNTS: u64 = 65536;

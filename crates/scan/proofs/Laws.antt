@@ -12,7 +12,7 @@ use Rattle.theory.specs.Search.Tables.{groups, cell, unreached, inner, Tables}
 use Rattle.theory.specs.Search.Grow.{grow}
 use Rattle.theory.specs.Search.Rings.{absorb, contract}
 use Rattle.theory.specs.Search.Look.{strike, touch, look, scanRow}
-use Rattle.theory.proofs.Count.{clash}
+use Rattle.graphs.proofs.Count.{clash}
 use Rattle.theory.proofs.Search.Cells.{by-test}
 use Rattle.theory.proofs.Search.Steps.{scan-none, scan-again, scan-all, scan-left}
 use Rattle.words.specs.Words.{word, numbers}

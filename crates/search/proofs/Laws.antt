@@ -5,7 +5,7 @@ use mathlib.Core.Bool.{Bool, true, false}
 use mathlib.Core.List.{List, map}
 use lib.ListN.{take, replicate}
 use Rattle.limits.specs.Limits.{none}
-use Rattle.theory.specs.Graph.{Graph}
+use Rattle.graphs.specs.Graph.{Graph}
 use Rattle.theory.specs.Search.Tables.{groups, unreached, Line, Tables}
 use Rattle.theory.specs.Search.Start.{seed, fill, start}
 use Rattle.theory.specs.Search.Look.{run}
@@ -13,7 +13,7 @@ use Rattle.theory.specs.Search.Expose.{augmented}
 use Rattle.theory.specs.Search.Searched.{inward, outward, mark, after, begun, ended, Outcome, found, stuck, searchedIn}
 use Rattle.tables.specs.Shapes.{line, rings, tables}
 use Rattle.search.specs.Answer.{Answers}
-use Rattle.theory.proofs.Count.{clash}
+use Rattle.graphs.proofs.Count.{clash}
 
 -- ---- either way out
 

@@ -10,9 +10,9 @@ use lib.Dec.{eqb, ltb, leb}
 use lib.ListN.{length, getD, drop}
 use borrow.Author.Tests.{ltb-true, ltb-false, lt-ltb, le-ltb, leb-true, le-leb, eqb-true, eq-eqb}
 use Rattle.limits.specs.Limits.{routes, none}
-use Rattle.theory.specs.Count.{all}
-use Rattle.theory.specs.Graph.{Graph, has, joined}
-use Rattle.theory.proofs.Count.{cases, clash, tests, all-at, all-of}
+use Rattle.graphs.specs.Count.{all}
+use Rattle.graphs.specs.Graph.{Graph, has, joined}
+use Rattle.graphs.proofs.Count.{cases, clash, tests, all-at, all-of}
 use Rattle.rows.specs.Sheet.{Shaped, order, start, total, graphOf, named}
 use Rattle.replies.specs.Reply.{refuses, first, firstOf}
 use Rattle.entries.specs.Entries.{entryReply, rowReply, rowsReply, loopReply}

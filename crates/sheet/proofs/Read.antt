@@ -9,10 +9,10 @@ use native.Mathlib.Nat.{mul-le-mul}
 use native.Mathlib.Numerals.{add-one}
 use lib.ListN.{length, getD, drop}
 use Rattle.limits.specs.Limits.{routes, none}
-use Rattle.theory.specs.Count.{total}
-use Rattle.theory.specs.Graph.{Graph, Simple, has, joined, distinct, edges, entries}
-use Rattle.theory.proofs.Count.{tests}
-use Rattle.theory.proofs.Graph.{entries-edges, entries-le}
+use Rattle.graphs.specs.Count.{total}
+use Rattle.graphs.specs.Graph.{Graph, Simple, has, joined, distinct, edges, entries}
+use Rattle.graphs.proofs.Count.{tests}
+use Rattle.graphs.proofs.Graph.{entries-edges, entries-le}
 use Rattle.rows.specs.Sheet.{Shaped, order, start, graphOf, named}
 use Rattle.rows.specs.Sheet as sheet
 use Rattle.sheet.specs.Reply.{replyOf}

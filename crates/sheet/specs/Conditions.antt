@@ -5,7 +5,7 @@ use mathlib.Core.Bool.{true, false}
 use mathlib.Core.List.{List}
 use lib.ListN.{length, drop}
 use Rattle.limits.specs.Limits.{routes}
-use Rattle.theory.specs.Graph.{Graph, has, joined}
+use Rattle.graphs.specs.Graph.{Graph, has, joined}
 use Rattle.rows.specs.Sheet.{Shaped, order, graphOf, named}
 use Rattle.replies.specs.declared.Reply.{Reply}
 use Rattle.replies.specs.declared.Reply.the-variants.{Accepted, Short, TooMany, Contents, UnknownId, DuplicateEdge, MissingEdge, Loop}

@@ -5,7 +5,7 @@ use mathlib.Core.List.{List}
 use lib.ListN.{length}
 use lib.Dec.{eqb, ltb, leb}
 use Rattle.limits.specs.Limits.{routes}
-use Rattle.theory.specs.Count.{all}
+use Rattle.graphs.specs.Count.{all}
 use Rattle.rows.specs.Sheet.{order, start, total, graphOf}
 use Rattle.replies.specs.Reply.{first}
 use Rattle.replies.specs.declared.Reply.{Reply}

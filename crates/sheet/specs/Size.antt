@@ -2,7 +2,7 @@
 use Prim.Native.Nat.{ℕ, _/_}
 use mathlib.Core.Path.{_≡_}
 use mathlib.Core.List.{List}
-use Rattle.theory.specs.Graph.{edges}
+use Rattle.graphs.specs.Graph.{edges}
 use Rattle.rows.specs.Sheet.{total, graphOf}
 use Rattle.sheet.specs.Reply.{replyOf}
 use Rattle.replies.specs.declared.Reply.the-variants.{Accepted}

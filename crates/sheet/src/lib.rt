@@ -12,7 +12,7 @@ ghost use lib.Dec.{leb};
 ghost use Rattle.words.specs.Words.{word};
 ghost use Rattle.sheet.specs.Reply.{replyOf, shaped};
 ghost use Rattle.sheet.specs.Size.{Size};
-ghost use Rattle.theory.specs.Count.{all};
+ghost use Rattle.graphs.specs.Count.{all};
 
 // Whether no start is above the next one, n being the number of routes.
 fn starts_rise(s: &[u8], n: u32) -> bool

@@ -1,15 +1,3 @@
-pub mod Layouts
-pub mod Count
-pub mod Graph
-pub mod Tests
-pub mod Excluded
-pub mod Parts
-pub mod Pairing
-pub mod Bound
-pub mod Largest
-pub mod Plan
-pub mod Samples
-pub mod Sets
 pub mod Ring
 pub mod Forest
 pub mod Search

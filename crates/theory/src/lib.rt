@@ -1,4 +1,4 @@
-// The mathematics of pairing routes, and no function. `specs/` holds what a reader has to believe: graphs as rows,
-// parts and the surplus of a set, pairings and the largest of them, plans of sessions, and the layouts marked P.
-// `proofs/` holds what follows from it: the Tutte-Berge bound, that a tight set shows a pairing to be largest, and
-// that no plan has fewer sessions than a largest pairing leaves. The crates above cite both.
+// The search for one more pair, and no function. `specs/` holds it as functions on lists, in the shape of the code, and
+// what it promises; `proofs/` holds the theorems: what it finds is a pairing with one pair more in which every route
+// paired before is paired, and where it finds none its witness meets the bound. Below stands the crate `graphs`: graphs,
+// pairings and the bound. The crates above cite both.

@@ -7,7 +7,7 @@ use native.Mathlib.Omega.{arith}
 use lib.ListN.{length, getD}
 use Rattle.limits.specs.Limits.{routes, none}
 use Rattle.theory.specs.Search.Searched.{Outcome, found, stuck, searchedIn, improvedIn}
-use Rattle.theory.proofs.Count.{cases}
+use Rattle.graphs.proofs.Count.{cases}
 use Rattle.theory.proofs.Search.Improved.{improved-add, stuck-stays}
 use Rattle.words.specs.Words.{bytesTo}
 use Rattle.rows.specs.Sheet.{order, graphOf}

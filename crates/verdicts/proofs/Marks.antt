@@ -7,8 +7,8 @@ use native.Mathlib.Omega.{arith}
 use lib.Dec.{ltb}
 use lib.ListN.{getD}
 use borrow.Author.Tests.{lt-ltb, le-ltb}
-use Rattle.theory.specs.Count.{least}
-use Rattle.theory.proofs.Count.{least-at, least-end}
+use Rattle.graphs.specs.Count.{least}
+use Rattle.graphs.proofs.Count.{least-at, least-end}
 use Rattle.verdicts.specs.Verdict.{markVerdict}
 use Rattle.verdicts.specs.declared.Verdict.the-variants.{Accepted, Mark}
 

@@ -6,8 +6,8 @@ use lib.Dec.{eqb, ltb}
 use lib.ListN.{length, getD}
 use Rattle.limits.specs.Answer.{told}
 use Rattle.limits.specs.declared.Told.{Told}
-use Rattle.theory.specs.Count.{least}
-use Rattle.theory.specs.Graph.{Graph}
+use Rattle.graphs.specs.Count.{least}
+use Rattle.graphs.specs.Graph.{Graph}
 use Rattle.replies.specs.Reply as replies
 use Rattle.sheet.specs.Reply as sheet
 use Rattle.causes.specs.Cause.{causeOf, firstWrong, valueFor}

@@ -11,7 +11,7 @@ use mir.Val.{SFits, toZ, ofZ}
 use mir.Facts.{toZ-pos, toZ-ofZ}
 use borrow.Author.Tests.{le-ltb, ltb-true, ltb-false}
 use Rattle.limits.specs.Limits.{routes}
-use Rattle.theory.proofs.Count.{cases}
+use Rattle.graphs.proofs.Count.{cases}
 
 sub-is : (a b : ℕ) → pos a -ℤ pos b ≡ subℕ a b
 sub-is a zero = rw (le-ltb a 0 (omega arith)) (ap pos (omega arith))

@@ -7,14 +7,14 @@ use native.Mathlib.Omega.{arith}
 use lib.IntN.{subℕ}
 use lib.ListN.{length, getD}
 use Rattle.limits.specs.Limits.{routes, none}
-use Rattle.theory.specs.Count.{count}
-use Rattle.theory.specs.Graph.{inSet}
-use Rattle.theory.specs.Parts.{parts}
-use Rattle.theory.specs.Surplus.{oddRoot, oddParts, surplus}
-use Rattle.theory.specs.Pairing.{paired, unpaired}
-use Rattle.theory.proofs.Count.{count-le}
-use Rattle.theory.proofs.Parts.{parts-table}
-use Rattle.theory.proofs.Bound.{odd-fits}
+use Rattle.graphs.specs.Count.{count}
+use Rattle.graphs.specs.Graph.{inSet}
+use Rattle.graphs.specs.Parts.{parts}
+use Rattle.graphs.specs.Surplus.{oddRoot, oddParts, surplus}
+use Rattle.graphs.specs.Pairing.{paired, unpaired}
+use Rattle.graphs.proofs.Count.{count-le}
+use Rattle.graphs.proofs.Parts.{parts-table}
+use Rattle.graphs.proofs.Bound.{odd-fits}
 use Rattle.words.specs.Words.{bytesTo}
 use Rattle.rows.specs.Sheet.{order, graphOf}
 use Rattle.sheet.specs.Reply.{replyOf}

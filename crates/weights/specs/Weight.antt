@@ -3,10 +3,10 @@ use Prim.Native.Nat.{ℕ}
 use mathlib.Core.Path.{_≡_}
 use mathlib.Core.Bool.{Bool, cond}
 use Rattle.limits.specs.Limits.{none}
-use Rattle.theory.specs.Count.{count}
-use Rattle.theory.specs.Graph.{Graph}
-use Rattle.theory.specs.Parts.{root}
-use Rattle.theory.specs.Surplus.{oddParts}
+use Rattle.graphs.specs.Count.{count}
+use Rattle.graphs.specs.Graph.{Graph}
+use Rattle.graphs.specs.Parts.{root}
+use Rattle.graphs.specs.Surplus.{oddParts}
 
 -- odd is the number of odd parts that are left without the set, and size how many routes are in it
 pub record Weighs (g : Graph) (A : ℕ → Bool) (odd size : ℕ) : Type 0 where

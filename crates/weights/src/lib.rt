@@ -1,10 +1,10 @@
 // What is counted of a set of routes: the odd parts that are left without it, and its size; their difference, as a signed
 // number; and the names of the parts, written out. Each by a table with a cell for each route.
+use counts::odd_parts;
+use counts::set_size;
 use limits::NONE;
 use limits::ROUTES;
-use parts::odd_parts;
 use parts::part_names;
-use parts::set_size;
 use rows::order;
 use words::put_word;
 ghost use mathlib.Core.Path.{_≡_};

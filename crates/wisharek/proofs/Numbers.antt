@@ -8,11 +8,11 @@ use lib.Dec.{eqb, ltb}
 use lib.IntN.{ℤ, subℕ}
 use lib.ListN.{length, getD}
 use Rattle.limits.specs.declared.Told.{Told}
-use Rattle.theory.specs.Count.{least}
-use Rattle.theory.specs.Graph.{Graph}
-use Rattle.theory.specs.Surplus.{surplus}
-use Rattle.theory.specs.Pairing.{unpaired}
-use Rattle.theory.proofs.Count.{cases, clash}
+use Rattle.graphs.specs.Count.{least}
+use Rattle.graphs.specs.Graph.{Graph}
+use Rattle.graphs.specs.Surplus.{surplus}
+use Rattle.graphs.specs.Pairing.{unpaired}
+use Rattle.graphs.proofs.Count.{cases, clash}
 use Rattle.words.specs.Words.{putLong, longsOf}
 use Rattle.words.proofs.Bytes.{put-three, put-four, put-five, put-seven}
 use Rattle.rows.specs.Sheet.{order, graphOf}

@@ -10,13 +10,13 @@ use lib.IntN.{ℤ, pos, negsuc}
 use lib.ListN.{length, getD}
 use borrow.Author.Tests.{eq-eqb, ne-eqb, eqb-true, lt-ltb, le-ltb, ltb-true, ltb-false}
 use Rattle.limits.specs.Limits.{routes, none}
-use Rattle.theory.specs.Count.{least}
-use Rattle.theory.specs.Graph.{Graph, joined}
-use Rattle.theory.specs.Surplus.{surplus}
-use Rattle.theory.specs.Pairing.{unpaired}
-use Rattle.theory.proofs.Count.{cases, clash, least-first, least-passes}
-use Rattle.theory.proofs.Bound.{no-more-pairs}
-use Rattle.theory.proofs.Plan.{no-fewer-sessions}
+use Rattle.graphs.specs.Count.{least}
+use Rattle.graphs.specs.Graph.{Graph, joined}
+use Rattle.graphs.specs.Surplus.{surplus}
+use Rattle.graphs.specs.Pairing.{unpaired}
+use Rattle.graphs.proofs.Count.{cases, clash, least-first, least-passes}
+use Rattle.graphs.proofs.Bound.{no-more-pairs}
+use Rattle.graphs.proofs.Plan.{no-fewer-sessions}
 use Rattle.rows.specs.Sheet.{order, graphOf}
 use Rattle.replies.specs.Reply as replies
 use Rattle.sheet.specs.Reply as sheet

@@ -7,11 +7,11 @@ use native.Mathlib.Omega.{arith}
 use lib.Dec.{eqb, ltb}
 use lib.IntN.{ℤ, pos, subℕ}
 use borrow.Author.Tests.{eq-eqb, ne-eqb, ltb-true, ltb-false, eqb-true, eqb-false}
-use Rattle.theory.specs.Count.{count}
-use Rattle.theory.specs.Graph.{Graph}
-use Rattle.theory.specs.Surplus.{oddParts, surplus}
-use Rattle.theory.specs.Pairing.{unpaired}
-use Rattle.theory.proofs.Count.{cases}
+use Rattle.graphs.specs.Count.{count}
+use Rattle.graphs.specs.Graph.{Graph}
+use Rattle.graphs.specs.Surplus.{oddParts, surplus}
+use Rattle.graphs.specs.Pairing.{unpaired}
+use Rattle.graphs.proofs.Count.{cases}
 use Rattle.verdicts.specs.Verdict.{refuses, first}
 use Rattle.witness.specs.Verdict.{isCount, boundVerdict, surplusVerdict, surplusOf, partsVerdict, oddOf, membersOf, partsBytes}
 use Rattle.witness.specs.Promise.{Parted}

@@ -7,10 +7,10 @@ use mathlib.Core.List.{List}
 use lib.IntN.{ℤ, pos, subℕ}
 use lib.ListN.{length, getD}
 use Rattle.limits.specs.Limits.{routes, none}
-use Rattle.theory.specs.Graph.{Graph}
-use Rattle.theory.specs.Surplus.{surplus}
-use Rattle.theory.specs.Pairing.{Pairing, pairs, unpaired, sessions}
-use Rattle.theory.specs.Plan.{Session, Plan}
+use Rattle.graphs.specs.Graph.{Graph}
+use Rattle.graphs.specs.Surplus.{surplus}
+use Rattle.graphs.specs.Pairing.{Pairing, pairs, unpaired, sessions}
+use Rattle.graphs.specs.Plan.{Session, Plan}
 use Rattle.rows.specs.Sheet.{order, graphOf}
 use Rattle.sheet.specs.Reply.{replyOf}
 use Rattle.replies.specs.declared.Reply.the-variants as sheet

@@ -4,10 +4,10 @@ use mathlib.Core.Bool.{Bool, false, cond}
 use mathlib.Core.List.{List}
 use lib.Dec.{eqb}
 use lib.IntN.{ℤ, pos, negsuc}
-use Rattle.theory.specs.Count.{count}
-use Rattle.theory.specs.Graph.{Graph}
-use Rattle.theory.specs.Surplus.{oddParts, surplus}
-use Rattle.theory.specs.Pairing.{unpaired}
+use Rattle.graphs.specs.Count.{count}
+use Rattle.graphs.specs.Graph.{Graph}
+use Rattle.graphs.specs.Surplus.{oddParts, surplus}
+use Rattle.graphs.specs.Pairing.{unpaired}
 use Rattle.words.specs.Words.{bytesTo}
 use Rattle.rows.specs.Sheet.{order, graphOf}
 use Rattle.causes.specs.Given.{mateOf, setOf}

@@ -12,9 +12,9 @@ use native.Mathlib.Decide.{ℕ-discrete}
 use lib.Seq.{take-all, take-suc, set-at, sets, sets-eq, take-append-seam, drop-append-add, drop-drop, drop-cons, getD-set-same, getD-set-other}
 use borrow.Author.Tests.{lt-ltb, le-ltb, ltb-true, ltb-false}
 use Rattle.limits.specs.Limits.{none}
-use Rattle.theory.specs.Parts.{run}
-use Rattle.theory.proofs.Count.{cases}
-use Rattle.theory.proofs.Parts.{run-length, run-at}
+use Rattle.graphs.specs.Parts.{run}
+use Rattle.graphs.proofs.Count.{cases}
+use Rattle.graphs.proofs.Parts.{run-length, run-at}
 use Rattle.words.specs.Words.{four, word, numbers, putWord, putLong, bytes4, bytes8, bytesTo, longsOf, over}
 
 -- ---- a number that is there, and one that is not

@@ -5,7 +5,7 @@ use mathlib.Core.List.{List, [], _∷_, _++_, map}
 use lib.ListN.{length, getD, set}
 use lib.Dec.{ltb}
 use Rattle.limits.specs.Limits.{none}
-use Rattle.theory.specs.Parts.{run}
+use Rattle.graphs.specs.Parts.{run}
 
 -- the four bytes from i on, as a number
 abbrev pub four : List ℕ → ℕ → ℕ

@@ -6,7 +6,7 @@ use mathlib.Core.List.{_++_, map}
 use native.Mathlib.Omega.{arith}
 use lib.ListN.{length, take, drop}
 use Rattle.limits.specs.Limits.{routes}
-use Rattle.theory.specs.Parts.{run}
+use Rattle.graphs.specs.Parts.{run}
 use Rattle.theory.specs.Search.Tables.{cell}
 use Rattle.theory.specs.Search.Searched.{mark}
 use Rattle.words.proofs.Bytes.{cells-again, cells-end}

@@ -1,8 +1,8 @@
 -- `first_wrong` meets its contract. The invariant: no route below v has a wrong partner. Assumes nothing.
 use Prim.Native.Nat.{ℕ, _+_, _≤_, _-_, _/_}
 use mathlib.Core.Path.{_≡_, refl, sym, ap, _∙_}
-use Rattle.theory.specs.Count.{least}
-use Rattle.theory.proofs.Count.{least-none}
+use Rattle.graphs.specs.Count.{least}
+use Rattle.graphs.proofs.Count.{least-none}
 use Rattle.rows.specs.Sheet.{order, graphOf}
 use Rattle.causes.specs.Given.{mateOf}
 use Rattle.causes.specs.Cause.{causeOf, wrong}

@@ -5,7 +5,7 @@ use Rattle.rows.specs.Sheet.{order, graphOf}
 use Rattle.replies.specs.Reply.{firstOf}
 use Rattle.entries.specs.Quick.{quickRow, lastPlaces, unkept}
 use Rattle.replies.specs.declared.Reply.the-variants.{Accepted}
-use Rattle.theory.specs.Graph.{Graph}
+use Rattle.graphs.specs.Graph.{Graph}
 use Rattle.replies.proofs.Firsts.{first-none}
 use Rattle.entries.proofs.Quick.{marks-at, marks-past, marks-end}
 use borrow.Author.Needs.{needs}

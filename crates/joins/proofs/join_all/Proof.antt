@@ -3,7 +3,7 @@ use Prim.Native.Nat.{_≤_, _-_}
 use mathlib.Core.Path.{_≡_, refl, sym}
 use Prim.Native.Nat.{_/_}
 use lib.ListN.{length}
-use Rattle.refusals.specs.Partners.{countOf, after}
+use Rattle.mates.specs.Partners.{countOf, after}
 use Rattle.joins.proofs.Paths.{after-none}
 use Rattle.joins.proofs.Steps.{all-ready, all-next, all-end}
 use borrow.Author.Needs.{needs}

@@ -3,8 +3,8 @@ use Prim.Native.Nat.{ℕ, _+_, _≤_, _-_, _/_}
 use mathlib.Core.Path.{_≡_, refl, sym, ap, _∙_}
 use native.Mathlib.Omega.{arith}
 use lib.ListN.{length, drop}
-use Rattle.theory.specs.Graph.{inSet}
-use Rattle.theory.specs.Parts.{link, linkRow}
+use Rattle.graphs.specs.Graph.{inSet}
+use Rattle.graphs.specs.Parts.{link, linkRow}
 use Rattle.words.specs.Words.{numbers, over}
 use Rattle.parts.proofs.Joined.{row-begins, row-again, row-ends, link-length}
 use borrow.Author.Needs.{needs}

@@ -2,8 +2,8 @@
 use Prim.Native.Nat.{ℕ, _+_, _≤_, _-_, _/_}
 use mathlib.Core.Path.{_≡_, refl, sym, ap, _∙_}
 use lib.ListN.{length}
-use Rattle.theory.specs.Graph.{inSet}
-use Rattle.theory.specs.Parts.{linkRows}
+use Rattle.graphs.specs.Graph.{inSet}
+use Rattle.graphs.specs.Parts.{linkRows}
 use denote.Ref.{now}
 use Prim.Native.Nat.{_<_}
 use native.Mathlib.Omega.{arith}

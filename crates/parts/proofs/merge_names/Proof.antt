@@ -2,7 +2,7 @@
 use Prim.Native.Nat.{ℕ, _+_, _≤_, _-_, _/_}
 use mathlib.Core.Path.{_≡_, refl, sym, ap, _∙_}
 use lib.ListN.{length, length-set}
-use Rattle.theory.specs.Parts.{merge}
+use Rattle.graphs.specs.Parts.{merge}
 use Rattle.parts.proofs.Swept.{swept, swept-none, swept-again, swept-long, swept-map}
 use borrow.Author.Needs.{needs}
 use Rattle.parts.proofs.merge_names.Statement.{statement}

@@ -1,8 +1,8 @@
 -- `merged` meets its contract: a name that is one of the two becomes the lesser. Assumes nothing.
 use mathlib.Core.Path.{sym, _∙_}
 use borrow.Author.Tests.{eq-eqb, ne-eqb}
-use Rattle.theory.specs.Parts.{merge}
-use Rattle.theory.proofs.Parts.{merge-left, merge-right, merge-other}
+use Rattle.graphs.specs.Parts.{merge}
+use Rattle.graphs.proofs.Parts.{merge-left, merge-right, merge-other}
 use borrow.Author.Needs.{needs}
 use Rattle.parts.proofs.merged.Statement.{statement}
 use Rattle.parts.proofs.merged.Tie as tie

@@ -4,8 +4,8 @@ use native.Mathlib.Omega.{arith}
 use denote.Ref.{now}
 use lib.ListN.{length}
 use Rattle.rows.specs.Sheet.{order}
-use Rattle.theory.specs.Parts.{run}
-use Rattle.theory.proofs.Parts.{run-length}
+use Rattle.graphs.specs.Parts.{run}
+use Rattle.graphs.proofs.Parts.{run-length}
 use Rattle.sheet.proofs.Read.{order-most}
 use borrow.Author.Needs.{needs}
 use Rattle.parts.proofs.part_names.Statement.{statement}

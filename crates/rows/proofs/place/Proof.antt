@@ -4,8 +4,8 @@ use mathlib.Core.Path.{_≡_, refl, sym, _∙_}
 use borrow.Author.Tests.{eq-eqb, ne-eqb}
 use lib.Dec.{eqb}
 use lib.ListN.{length}
-use Rattle.theory.specs.Count.{least}
-use Rattle.theory.proofs.Count.{least-none, least-past, least-at, least-end}
+use Rattle.graphs.specs.Count.{least}
+use Rattle.graphs.proofs.Count.{least-none, least-past, least-at, least-end}
 use Rattle.words.specs.Words.{word}
 use Rattle.rows.proofs.Stretches.{place-is}
 use borrow.Author.Needs.{needs}

@@ -6,8 +6,8 @@ use Prim.Native.Nat.{_+_}
 use mathlib.Core.Bool.{true}
 use lib.Dec.{leb}
 use native.Mathlib.Omega.{arith}
-use Rattle.theory.specs.Count.{all}
-use Rattle.theory.proofs.Count.{all-none, all-past, all-fails, all-end}
+use Rattle.graphs.specs.Count.{all}
+use Rattle.graphs.proofs.Count.{all-none, all-past, all-fails, all-end}
 use Rattle.words.specs.Words.{word}
 use borrow.Author.Needs.{needs}
 use Rattle.sheet.proofs.starts_rise.Statement.{statement}

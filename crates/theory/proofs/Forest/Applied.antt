@@ -6,7 +6,7 @@ use native.Mathlib.Omega.{arith}
 use mathlib.Core.List.{List, [], _∷_}
 use lib.ListN.{length, getD, set, length-set}
 use lib.Seq.{getD-set-same, getD-set-other}
-use Rattle.theory.proofs.Sets.{is, is-self}
+use Rattle.graphs.proofs.Sets.{is, is-self}
 use Rattle.theory.proofs.Ring.Pairs.{occ}
 use Rattle.theory.proofs.Forest.Inside.{Has, Applied}
 use Rattle.theory.proofs.Ring.Exposed.{setAll}

@@ -7,7 +7,7 @@ use native.Mathlib.Omega.{arith}
 use native.Mathlib.Nat.{eq-zero-or-pos}
 use mathlib.Core.List.{List, [], _∷_, _++_}
 use lib.ListN.{length, length-append}
-use Rattle.theory.proofs.Sets.{is, is-other, Is, same, other, is?, cnt, cnt-append, sum, sum-append}
+use Rattle.graphs.proofs.Sets.{is, is-other, Is, same, other, is?, cnt, cnt-append, sum, sum-append}
 use Rattle.theory.proofs.Ring.Chain.{Chain, chain-map, chain-join}
 use Rattle.theory.proofs.Ring.Stored.{Step}
 use Rattle.theory.proofs.Forest.Grow.{Set2}

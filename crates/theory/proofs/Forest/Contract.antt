@@ -6,7 +6,7 @@ use Prim.Native.Nat.{ℕ, suc, _+_, _≤_, _<_}
 use native.Mathlib.Omega.{arith}
 use native.Mathlib.Nat.{eq-zero-or-pos}
 use mathlib.Core.List.{List}
-use Rattle.theory.proofs.Sets.{is, is-self, is-other, is-pos, Is, same, other, is?, cnt}
+use Rattle.graphs.proofs.Sets.{is, is-self, is-other, is-pos, Is, same, other, is?, cnt}
 use Rattle.theory.proofs.Forest.Grow.{Set1}
 use Rattle.theory.proofs.Forest.Shape.{Inner, Forest, outer-in, inner-in, inner-alone, plain, back, mt-group}
 use Rattle.theory.proofs.Forest.Walk.{Leg, leg-end, leg-closed, leg-between, leg-root, leg-tree, leg-paired}

@@ -5,7 +5,7 @@ use mathlib.Core.Logic.{_≢_, _⊎_, inl, inr}
 use Prim.Native.Nat.{ℕ, suc, _<_}
 use native.Mathlib.Omega.{arith}
 use native.Mathlib.Decide.{ℕ-discrete}
-use Rattle.theory.proofs.Sets.{is}
+use Rattle.graphs.proofs.Sets.{is}
 use Rattle.theory.proofs.Forest.Inside.{Pairing}
 use Rattle.theory.proofs.Forest.Shape.{Inner, Forest, plain}
 

@@ -6,7 +6,7 @@ use Prim.Native.Nat.{ℕ, zero, suc, _+_, _≤_, _<_}
 use native.Mathlib.Omega.{arith}
 use native.Mathlib.Nat.{eq-zero-or-pos}
 use mathlib.Core.List.{List, [], _∷_}
-use Rattle.theory.proofs.Sets.{total, total-ext, total-add, total-is, is, is-other, Is, same, other, is?}
+use Rattle.graphs.proofs.Sets.{total, total-ext, total-add, total-is, is, is-other, Is, same, other, is?}
 use Rattle.theory.proofs.Ring.Pairs.{occ, Edges}
 
 -- m' is m with the pairs set

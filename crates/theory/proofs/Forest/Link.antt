@@ -6,7 +6,7 @@ use native.Mathlib.Nat.{eq-zero-or-pos}
 use native.Mathlib.Omega.{arith}
 use native.Mathlib.Decide.{decLt, decLe}
 use mathlib.Core.List.{List, [], _∷_, _++_}
-use Rattle.theory.proofs.Sets.{is, is-self, Is, same, other, is?, cnt, cnt-append}
+use Rattle.graphs.proofs.Sets.{is, is-self, Is, same, other, is?, cnt, cnt-append}
 use Rattle.theory.proofs.Forest.Grow.{Set1, Set2}
 use Rattle.theory.proofs.Forest.Shape.{mt-group}
 use Rattle.theory.proofs.Forest.Bow.{Bow, bow-start, left-more, right-more, can-left, can-right, x-outer, y-outer, ring-old}

@@ -4,7 +4,7 @@ use mathlib.Core.Path.{_≡_, sym, ap, _∙_, subst}
 use mathlib.Core.Logic.{_≢_, _⊎_}
 use Prim.Native.Nat.{ℕ, _+_, _≤_, _<_}
 use native.Mathlib.Omega.{arith}
-use Rattle.theory.proofs.Sets.{is, is-self, is-other, is-pos, Is, same, other, is?}
+use Rattle.graphs.proofs.Sets.{is, is-self, is-other, is-pos, Is, same, other, is?}
 use Rattle.theory.proofs.Forest.Inside.{Pairing}
 
 -- an inner route i

@@ -6,7 +6,7 @@ use native.Mathlib.Omega.{arith}
 use native.Mathlib.Nat.{eq-zero-or-pos}
 use native.Mathlib.Decide.{ℕ-discrete, decLt}
 use mathlib.Core.List.{List}
-use Rattle.theory.proofs.Sets.{is, is-other, is-pos, Is, same, other, is?, cnt}
+use Rattle.graphs.proofs.Sets.{is, is-other, is-pos, Is, same, other, is?, cnt}
 use Rattle.theory.proofs.Ring.Chain.{Chain, chain-map}
 use Rattle.theory.proofs.Forest.Grow.{Set1, Set2, start, grow}
 use Rattle.theory.proofs.Forest.Inside.{Pairing}

@@ -7,7 +7,7 @@ use Prim.Native.Nat.{ℕ, _+_, _≤_, _<_}
 use native.Mathlib.Omega.{arith}
 use native.Mathlib.Nat.{eq-zero-or-pos}
 use mathlib.Core.List.{List, [], _∷_, _++_}
-use Rattle.theory.proofs.Sets.{is, is-self, Is, same, other, is?, cnt, sum}
+use Rattle.graphs.proofs.Sets.{is, is-self, Is, same, other, is?, cnt, sum}
 use Rattle.theory.proofs.Ring.Pairs.{occ, Edges}
 use Rattle.theory.proofs.Forest.Inside.{Augmenting}
 use Rattle.theory.proofs.Forest.Shape.{Inner, Forest, is-partner, back, outer-in, inner-in, inner-alone, inner-set, mt-group}

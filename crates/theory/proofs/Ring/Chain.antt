@@ -3,7 +3,7 @@ use mathlib.Core.Path.{_≡_, ap}
 use Prim.Native.Nat.{ℕ, _+_, _<_}
 use native.Mathlib.Omega.{arith}
 use mathlib.Core.List.{List, [], _∷_, _++_}
-use Rattle.theory.proofs.Sets.{is, is-self, Is, same, other, is?, cnt}
+use Rattle.graphs.proofs.Sets.{is, is-self, Is, same, other, is?, cnt}
 
 -- a is linked to the first of l, each of l to the next, and the last of l to b
 abbrev pub Chain : (ℕ → ℕ → Type 0) → ℕ → List ℕ → ℕ → Type 0

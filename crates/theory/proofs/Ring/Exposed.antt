@@ -5,7 +5,7 @@ use Prim.Native.Nat.{ℕ, suc, _+_, _<_}
 use native.Mathlib.Omega.{arith}
 use mathlib.Core.List.{List, [], _∷_, _++_}
 use lib.ListN.{length, set}
-use Rattle.theory.proofs.Sets.{is, is-self, cnt, sum}
+use Rattle.graphs.proofs.Sets.{is, is-self, cnt, sum}
 use Rattle.theory.proofs.Ring.Chain.{Chain}
 use Rattle.theory.proofs.Ring.Pairs.{occ, occ-append, Edges, edges-append}
 use Rattle.theory.proofs.Ring.Stored.{Step, Stored}

@@ -6,7 +6,7 @@ use native.Mathlib.Omega.{arith}
 use native.Mathlib.Decide.{ℕ-discrete}
 use mathlib.Core.List.{List, [], _∷_, _++_}
 use lib.ListN.{length, length-append}
-use Rattle.theory.proofs.Sets.{is, is-self, Is, same, other, is?, cnt, cnt-append, sum, sum-append}
+use Rattle.graphs.proofs.Sets.{is, is-self, Is, same, other, is?, cnt, cnt-append, sum, sum-append}
 use Rattle.theory.proofs.Ring.Chain.{Chain, chain-map, chain-rotate, Place, place}
 use Rattle.theory.proofs.Ring.Stored.{Above, here, step, above-kept, Step, Around, Stored}
 

@@ -3,7 +3,7 @@ use mathlib.Core.Path.{_≡_}
 use Prim.Native.Nat.{ℕ, _+_}
 use native.Mathlib.Omega.{arith}
 use mathlib.Core.List.{List, [], _∷_, _++_}
-use Rattle.theory.proofs.Sets.{is}
+use Rattle.graphs.proofs.Sets.{is}
 
 -- how often the pairs name a route
 abbrev pub occ : List (ℕ × ℕ) → ℕ → ℕ

@@ -5,7 +5,7 @@ use Prim.Native.Nat.{ℕ, _+_, _≤_, _<_}
 use native.Mathlib.Omega.{arith}
 use mathlib.Core.List.{List}
 use lib.ListN.{length}
-use Rattle.theory.proofs.Sets.{is, cnt, sum}
+use Rattle.graphs.proofs.Sets.{is, cnt, sum}
 use Rattle.theory.proofs.Ring.Chain.{Chain}
 
 -- from the group c by rings up to the group g

@@ -9,10 +9,10 @@ use native.Mathlib.Decide.{ℕ-discrete, decLt}
 use lib.Dec.{eqb, ltb}
 use lib.ListN.{length, length-append}
 use borrow.Author.Tests.{eqb-true, eqb-false, eq-eqb, ne-eqb, ltb-true, ltb-false}
-use Rattle.theory.specs.Graph.{Graph, Simple}
+use Rattle.graphs.specs.Graph.{Graph, Simple}
 use Rattle.theory.specs.Search.Tables.{groups, cell, store, oneMore, Line, Rings, Tables, turns}
 use Rattle.theory.specs.Search.Rings.{Way, bridge, left, right, stride, linked, around, shift, absorb, contract}
-use Rattle.theory.proofs.Sets.{is, is-self, Is, same, other, is?, cnt, cnt-append}
+use Rattle.graphs.proofs.Sets.{is, is-self, Is, same, other, is?, cnt, cnt-append}
 use Rattle.theory.proofs.Ring.Chain.{Chain, chain-rotate, Place, place}
 use Rattle.theory.proofs.Ring.Stored.{Step}
 use Rattle.theory.proofs.Forest.Grow.{Set1}

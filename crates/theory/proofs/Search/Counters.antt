@@ -10,15 +10,15 @@ use lib.Dec.{ltb}
 use lib.ListN.{take}
 use borrow.Author.Tests.{ltb-true}
 use Rattle.limits.specs.Limits.{none}
-use Rattle.theory.specs.Graph.{Graph, Simple, has}
+use Rattle.graphs.specs.Graph.{Graph, Simple, has}
 use Rattle.theory.specs.Search.Tables.{groups, cell, Tables}
 use Rattle.theory.specs.Search.Look.{run}
 use Rattle.theory.specs.Search.Searched.{begun}
 use Rattle.theory.specs.Search.Promise.{Valid, Fits}
 use Rattle.theory.specs.Search.Bounds.{contractions, scanned, partway, Short, Inside}
-use Rattle.theory.proofs.Count.{cases, clash}
-use Rattle.theory.proofs.Graph.{has-head, has-tail, has-cases}
-use Rattle.theory.proofs.Sets.{is-self, cnt}
+use Rattle.graphs.proofs.Count.{cases, clash}
+use Rattle.graphs.proofs.Graph.{has-head, has-tail, has-cases}
+use Rattle.graphs.proofs.Sets.{is-self, cnt}
 use Rattle.theory.proofs.Ring.Chain.{Chain}
 use Rattle.theory.proofs.Ring.Stored.{Step}
 use Rattle.theory.proofs.Forest.Shape.{outer-in}

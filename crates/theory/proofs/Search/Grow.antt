@@ -7,7 +7,7 @@ use native.Mathlib.Omega.{arith}
 use native.Mathlib.Decide.{ℕ-discrete}
 use lib.ListN.{length}
 use lib.Seq.{getD-set-same, getD-set-other}
-use Rattle.theory.specs.Graph.{Graph, Simple}
+use Rattle.graphs.specs.Graph.{Graph, Simple}
 use Rattle.theory.specs.Search.Tables.{groups, cell, store, oneMore, Line, Tables}
 use Rattle.theory.specs.Search.Start.{enter}
 use Rattle.theory.specs.Search.Grow.{grow}

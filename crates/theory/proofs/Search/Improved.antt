@@ -9,14 +9,14 @@ use native.Mathlib.Nat.{add-suc, add-zero}
 use lib.Dec.{ltb}
 use lib.ListN.{length, replicate, getD-replicate}
 use Rattle.limits.specs.Limits.{none}
-use Rattle.theory.specs.Graph.{Graph, Simple}
-use Rattle.theory.specs.Pairing.{paired, pairs}
-use Rattle.theory.specs.Largest.{Largest}
+use Rattle.graphs.specs.Graph.{Graph, Simple}
+use Rattle.graphs.specs.Pairing.{paired, pairs}
+use Rattle.graphs.specs.Largest.{Largest}
 use Rattle.theory.specs.Search.Tables.{groups}
 use Rattle.theory.specs.Search.Searched.{Outcome, found, stuck, after, searchedIn, improvedIn}
 use Rattle.theory.specs.Search.Promise.{mateOf, Valid, Tidy, Fits, Promise}
-use Rattle.theory.proofs.Count.{count-le}
-use Rattle.theory.proofs.Largest.{largest-one}
+use Rattle.graphs.proofs.Count.{count-le}
+use Rattle.graphs.proofs.Largest.{largest-one}
 use Rattle.theory.proofs.Search.Cells.{length-rep}
 use Rattle.theory.proofs.Search.Searched.{search-found, search-tidy, search-stuck}
 

@@ -10,12 +10,12 @@ use lib.Dec.{eqb}
 use lib.ListN.{length, getD, set, length-set, List·getD-eq-default}
 use lib.Seq.{getD-set-same, getD-set-other}
 use borrow.Author.Tests.{eqb-true, eqb-false, eq-eqb, ne-eqb}
-use Rattle.theory.specs.Count.{count, but}
+use Rattle.graphs.specs.Count.{count, but}
 use Rattle.theory.specs.Search.Tables.{groups, cell, store, Line}
 use Rattle.theory.specs.Search.Start.{enter}
 use Rattle.theory.specs.Search.Rings.{admit, around}
-use Rattle.theory.proofs.Count.{tests, count-cong, count-mono, count-remove, count-not, count-le}
-use Rattle.theory.proofs.Sets.{is, is-self, is-pos, Is, same, other, is?, cnt}
+use Rattle.graphs.proofs.Count.{tests, count-cong, count-mono, count-remove, count-not, count-le}
+use Rattle.graphs.proofs.Sets.{is, is-self, is-pos, Is, same, other, is?, cnt}
 use Rattle.theory.proofs.Ring.Chain.{Chain}
 use Rattle.theory.proofs.Search.Cells.{by-test, cell-in, cell-past, store-is, store-length, store-same, store-other, oneMore-is}
 

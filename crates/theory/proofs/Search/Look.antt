@@ -11,13 +11,13 @@ use native.Mathlib.Nat.{not-suc-le-zero, add-zero, add-suc}
 use native.Mathlib.Decide.{ℕ-discrete}
 use lib.Dec.{eqb, ltb}
 use borrow.Author.Tests.{eqb-true, eqb-false, ltb-true, ltb-false}
-use Rattle.theory.specs.Graph.{Graph, Simple, joined, has}
+use Rattle.graphs.specs.Graph.{Graph, Simple, joined, has}
 use Rattle.theory.specs.Search.Tables.{groups, cell, Tables}
 use Rattle.theory.specs.Search.Grow.{grow}
 use Rattle.theory.specs.Search.Rings.{absorb, contract}
 use Rattle.theory.specs.Search.Look.{strike, touch, look, scanRow, turn, run}
-use Rattle.theory.proofs.Count.{cases, clash}
-use Rattle.theory.proofs.Graph.{has-head, has-tail, has-cases}
+use Rattle.graphs.proofs.Count.{cases, clash}
+use Rattle.graphs.proofs.Graph.{has-head, has-tail, has-cases}
 use Rattle.theory.proofs.Forest.Shape.{plain}
 use Rattle.theory.proofs.Search.Cells.{by-test, cell-in}
 use Rattle.theory.proofs.Search.Line.{labelOf, onward-none}

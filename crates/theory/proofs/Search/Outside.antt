@@ -12,14 +12,14 @@ use lib.ListN.{length, set, replicate, List·getD-eq-default}
 use lib.Seq.{getD-set-same, getD-set-other}
 use borrow.Author.Tests.{eqb-true, eqb-false, ltb-true, ltb-false, lt-ltb, le-ltb}
 use Rattle.limits.specs.Limits.{none}
-use Rattle.theory.specs.Count.{count, bit}
-use Rattle.theory.specs.Graph.{Graph, Simple, joined}
-use Rattle.theory.specs.Pairing as Bound
+use Rattle.graphs.specs.Count.{count, bit}
+use Rattle.graphs.specs.Graph.{Graph, Simple, joined}
+use Rattle.graphs.specs.Pairing as Bound
 use Rattle.theory.specs.Search.Tables.{cell, store}
 use Rattle.theory.specs.Search.Searched.{ownOr, inward, noneOr, outward}
 use Rattle.theory.specs.Search.Promise.{mateOf}
-use Rattle.theory.proofs.Count.{cases}
-use Rattle.theory.proofs.Sets.{is, is-self, is-other, total}
+use Rattle.graphs.proofs.Count.{cases}
+use Rattle.graphs.proofs.Sets.{is, is-self, is-other, total}
 use Rattle.theory.proofs.Forest.Inside as Inside
 use Rattle.theory.proofs.Forest.Applied.{partner}
 use Rattle.theory.proofs.Search.Cells.{getD-any, length-rep, cell-in, cell-any, store-in, store-length, store-same, store-other}

@@ -9,10 +9,10 @@ use native.Mathlib.Omega.{arith}
 use lib.Dec.{eqb}
 use lib.ListN.{length, set}
 use borrow.Author.Tests.{eqb-true, eqb-false}
-use Rattle.theory.specs.Graph.{Graph, Simple}
+use Rattle.graphs.specs.Graph.{Graph, Simple}
 use Rattle.theory.specs.Search.Tables.{groups, cell, Tables}
 use Rattle.theory.specs.Search.Expose.{pairUp, expose, raise, augmented}
-use Rattle.theory.proofs.Sets.{is, sum, sum-append, total}
+use Rattle.graphs.proofs.Sets.{is, sum, sum-append, total}
 use Rattle.theory.proofs.Ring.Pairs.{occ-append, Edges, edges-append}
 use Rattle.theory.proofs.Ring.Exposed.{Exposed, exposed-none, setAll, setAll-append}
 use Rattle.theory.proofs.Forest.Inside.{Pairing, Augmenting, Applied, better, better-keeps, better-count}

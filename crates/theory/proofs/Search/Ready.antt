@@ -4,10 +4,10 @@ use mathlib.Core.Bool.{true, false}
 use Prim.Native.Nat.{ℕ, _+_, _-_, _≤_, _<_}
 use native.Mathlib.Omega.{arith}
 use lib.ListN.{length}
-use Rattle.theory.specs.Graph.{Graph, Simple, joined}
+use Rattle.graphs.specs.Graph.{Graph, Simple, joined}
 use Rattle.theory.specs.Search.Tables.{groups, cell, Rings, Tables}
 use Rattle.theory.specs.Search.Promise.{Fits}
-use Rattle.theory.proofs.Count.{clash}
+use Rattle.graphs.proofs.Count.{clash}
 use Rattle.theory.proofs.Forest.Applied.{partner}
 use Rattle.theory.proofs.Forest.Shape.{Forest}
 use Rattle.theory.proofs.Forest.State.{State}

@@ -3,7 +3,7 @@ use mathlib.Core.Path.{_≡_, refl}
 use mathlib.Core.List.{List, [], _∷_}
 use Prim.Native.Nat.{ℕ, _+_}
 use lib.ListN.{length, replicate}
-use Rattle.theory.specs.Layouts.{graphOf, triangle, claw, tenRoutes}
+use Rattle.graphs.specs.Layouts.{graphOf, triangle, claw, tenRoutes}
 use Rattle.limits.specs.Limits.{none}
 use Rattle.theory.specs.Search.Tables.{cell, store, oneMore, turns}
 use Rattle.theory.specs.Search.Start.{enter, plant, seed, fill, start}

@@ -13,20 +13,20 @@ use lib.ListN.{length, getD, take, length-take, length-map, replicate}
 use lib.Seq.{getD-take}
 use borrow.Author.Tests.{eqb-true, eqb-false, eq-eqb, ne-eqb, ltb-false}
 use Rattle.limits.specs.Limits.{none}
-use Rattle.theory.specs.Graph.{Graph, Simple, joined, inSet}
-use Rattle.theory.specs.Surplus.{surplus}
-use Rattle.theory.specs.Pairing.{paired, unpaired}
+use Rattle.graphs.specs.Graph.{Graph, Simple, joined, inSet}
+use Rattle.graphs.specs.Surplus.{surplus}
+use Rattle.graphs.specs.Pairing.{paired, unpaired}
 use Rattle.theory.specs.Search.Tables.{groups, cell, Tables}
 use Rattle.theory.specs.Search.Start.{start}
 use Rattle.theory.specs.Search.Look.{run}
 use Rattle.theory.specs.Search.Expose.{augmented}
 use Rattle.theory.specs.Search.Searched.{inward, outward, mark, begun, ended, Outcome, found, stuck, searchedIn}
 use Rattle.theory.specs.Search.Promise.{mateOf, Valid, Tidy, Fits, Gained, Shown}
-use Rattle.theory.proofs.Count.{cases}
-use Rattle.theory.proofs.Parts.{map-at}
-use Rattle.theory.proofs.Pairing.{pairs-unpaired, mate-moves}
-use Rattle.theory.proofs.Largest.{largest-tight}
-use Rattle.theory.proofs.Sets.{is, is-self, is-other, is-le, is-pos}
+use Rattle.graphs.proofs.Count.{cases}
+use Rattle.graphs.proofs.Parts.{map-at}
+use Rattle.graphs.proofs.Pairing.{pairs-unpaired, mate-moves}
+use Rattle.graphs.proofs.Largest.{largest-tight}
+use Rattle.graphs.proofs.Sets.{is, is-self, is-other, is-le, is-pos}
 use Rattle.theory.proofs.Forest.Inside as Inside
 use Rattle.theory.proofs.Forest.Applied.{partner}
 use Rattle.theory.proofs.Forest.Shape.{plain}

@@ -10,7 +10,7 @@ use lib.Dec.{eqb}
 use lib.ListN.{length}
 use Rattle.theory.specs.Search.Tables.{groups, cell, store}
 use Rattle.theory.specs.Search.Rings.{regroup, shift}
-use Rattle.theory.proofs.Count.{cases}
+use Rattle.graphs.proofs.Count.{cases}
 use Rattle.theory.proofs.Search.Cells.{by-test, store-length, store-same, store-other}
 
 -- the group of a route whose group was t

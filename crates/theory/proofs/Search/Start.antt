@@ -11,11 +11,11 @@ use lib.Dec.{eqb}
 use lib.ListN.{length, replicate, getD-replicate, List·getD-eq-default}
 use borrow.Author.Tests.{eqb-true, eqb-false, eq-eqb, ne-eqb}
 use Rattle.limits.specs.Limits.{none}
-use Rattle.theory.specs.Graph.{Graph}
+use Rattle.graphs.specs.Graph.{Graph}
 use Rattle.theory.specs.Search.Tables.{groups, cell, store, Line}
 use Rattle.theory.specs.Search.Start.{enter, plant, seed, fill, start}
 use Rattle.theory.specs.Search.Promise.{Fits}
-use Rattle.theory.proofs.Count.{clash, count-none}
+use Rattle.graphs.proofs.Count.{clash, count-none}
 use Rattle.theory.proofs.Forest.Inside.{Pairing}
 use Rattle.theory.proofs.Forest.Applied.{partner}
 use Rattle.theory.proofs.Forest.State.{State, state-start}

@@ -11,7 +11,7 @@ use lib.Dec.{ltb}
 use lib.ListN.{length, getD, take}
 use lib.Seq.{take-all}
 use borrow.Author.Tests.{eq-eqb, ne-eqb, le-ltb}
-use Rattle.theory.specs.Graph.{Graph}
+use Rattle.graphs.specs.Graph.{Graph}
 use Rattle.theory.specs.Search.Tables.{groups, cell, store, Line, Rings, Tables, turns}
 use Rattle.theory.specs.Search.Start.{plant, seed, fill}
 use Rattle.theory.specs.Search.Rings.{Way, stride, admit, around, regroup, shift}

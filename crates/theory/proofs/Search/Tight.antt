@@ -8,15 +8,15 @@ use native.Mathlib.Omega.{arith}
 use lib.Dec.{eqb, ltb}
 use lib.IntN.{pos}
 use borrow.Author.Tests.{ltb-true, ltb-false, lt-ltb}
-use Rattle.theory.specs.Count.{count, but, least}
-use Rattle.theory.proofs.Count.{cases, clash, tests, same-test, count-inj, count-or, count-cong, count-none, count-remove, count-paired, count-classes, least-first, least-passes}
-use Rattle.theory.specs.Graph.{Graph, Simple, joined}
-use Rattle.theory.specs.Parts.{parts, root}
-use Rattle.theory.proofs.Parts.{root-le, root-root, root-test}
-use Rattle.theory.specs.Surplus.{isOdd, inPart, oddRoot, oddParts, surplus}
-use Rattle.theory.specs.Pairing.{Pairing, paired, unpaired}
-use Rattle.theory.proofs.Pairing.{mate-moves, mate-inj}
-use Rattle.theory.proofs.Bound.{bound, pos-sub}
+use Rattle.graphs.specs.Count.{count, but, least}
+use Rattle.graphs.proofs.Count.{cases, clash, tests, same-test, count-inj, count-or, count-cong, count-none, count-remove, count-paired, count-classes, least-first, least-passes}
+use Rattle.graphs.specs.Graph.{Graph, Simple, joined}
+use Rattle.graphs.specs.Parts.{parts, root}
+use Rattle.graphs.proofs.Parts.{root-le, root-root, root-test}
+use Rattle.graphs.specs.Surplus.{isOdd, inPart, oddRoot, oddParts, surplus}
+use Rattle.graphs.specs.Pairing.{Pairing, paired, unpaired}
+use Rattle.graphs.proofs.Pairing.{mate-moves, mate-inj}
+use Rattle.graphs.proofs.Bound.{bound, pos-sub}
 
 -- what a search that found no path leaves: each route is outer, inner or neither, and each outer route has a base
 pub record Closed (g : Graph) (mate : ℕ → ℕ) (outer inner : ℕ → Bool) (base : ℕ → ℕ) : Type 0 where

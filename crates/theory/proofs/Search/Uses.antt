@@ -4,12 +4,12 @@ use mathlib.Core.List.{List, [], _∷_}
 use Prim.Native.Nat.{ℕ}
 use native.Mathlib.Omega.{arith}
 use Rattle.limits.specs.Limits.{none}
-use Rattle.theory.specs.Count.{all}
-use Rattle.theory.specs.Graph.{Simple, has}
-use Rattle.theory.specs.Layouts.{graphOf, claw, tenRoutes}
-use Rattle.theory.specs.Largest.{Largest}
+use Rattle.graphs.specs.Count.{all}
+use Rattle.graphs.specs.Graph.{Simple, has}
+use Rattle.graphs.specs.Layouts.{graphOf, claw, tenRoutes}
+use Rattle.graphs.specs.Largest.{Largest}
 use Rattle.theory.specs.Search.Promise.{mateOf, Valid, Fits, Gained, Shown}
-use Rattle.theory.proofs.Tests.{simpleTest, simple, pairingTest, pairing, allIn}
+use Rattle.graphs.proofs.Tests.{simpleTest, simple, pairingTest, pairing, allIn}
 use Rattle.theory.proofs.Search.Searched.{search-found, search-stuck}
 use Rattle.theory.proofs.Search.Improved.{largest-some}
 use Rattle.theory.proofs.Search.Runs.{ten-found, claw-stuck}

@@ -6,7 +6,7 @@ use Prim.Native.Nat.{ℕ, _-_, _≤_, _<_}
 use lib.Dec.{ltb}
 use lib.ListN.{length, take}
 use Rattle.limits.specs.Limits.{none}
-use Rattle.theory.specs.Graph.{Graph}
+use Rattle.graphs.specs.Graph.{Graph}
 use Rattle.theory.specs.Search.Tables.{groups, cell, inner, Tables}
 use Rattle.theory.specs.Search.Look.{scanRow, run}
 use Rattle.theory.specs.Search.Searched.{begun, ended}

@@ -3,7 +3,7 @@ use mathlib.Core.Bool.{true, cond}
 use mathlib.Core.List.{List, [], _∷_}
 use Prim.Native.Nat.{ℕ, zero, suc}
 use lib.Dec.{eqb, ltb}
-use Rattle.theory.specs.Graph.{Graph}
+use Rattle.graphs.specs.Graph.{Graph}
 use Rattle.theory.specs.Search.Tables.{groups, cell, unreached, inner, Tables}
 use Rattle.theory.specs.Search.Grow.{grow}
 use Rattle.theory.specs.Search.Rings.{contract}

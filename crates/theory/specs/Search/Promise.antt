@@ -6,10 +6,10 @@ use Prim.Native.Nat.{ℕ, suc, _+_, _-_, _≤_, _<_, min}
 use lib.IntN.{pos}
 use lib.ListN.{length, getD}
 use Rattle.limits.specs.Limits.{none}
-use Rattle.theory.specs.Graph.{Graph, inSet}
-use Rattle.theory.specs.Surplus.{surplus}
-use Rattle.theory.specs.Pairing.{Pairing, unpaired, pairs}
-use Rattle.theory.specs.Largest.{Largest}
+use Rattle.graphs.specs.Graph.{Graph, inSet}
+use Rattle.graphs.specs.Surplus.{surplus}
+use Rattle.graphs.specs.Pairing.{Pairing, unpaired, pairs}
+use Rattle.graphs.specs.Largest.{Largest}
 use Rattle.theory.specs.Search.Tables.{groups}
 use Rattle.theory.specs.Search.Searched.{Outcome, stuck}
 

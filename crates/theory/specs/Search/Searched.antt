@@ -6,7 +6,7 @@ use Prim.Native.Nat.{ℕ, zero, suc}
 use lib.Dec.{eqb, ltb}
 use lib.ListN.{take, replicate}
 use Rattle.limits.specs.Limits.{none}
-use Rattle.theory.specs.Graph.{Graph}
+use Rattle.graphs.specs.Graph.{Graph}
 use Rattle.theory.specs.Search.Tables.{cell, store, inner, Tables}
 use Rattle.theory.specs.Search.Start.{start}
 use Rattle.theory.specs.Search.Look.{run}

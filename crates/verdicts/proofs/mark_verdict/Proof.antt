@@ -4,8 +4,8 @@ use mathlib.Core.Path.{_≡_, refl, sym, ap, _∙_}
 use borrow.Author.Tests.{le-ltb}
 use lib.Dec.{ltb}
 use lib.ListN.{getD}
-use Rattle.theory.specs.Count.{least}
-use Rattle.theory.proofs.Count.{least-none, least-past}
+use Rattle.graphs.specs.Count.{least}
+use Rattle.graphs.proofs.Count.{least-none, least-past}
 use Rattle.verdicts.proofs.Marks.{mark-at, mark-none}
 use borrow.Author.Needs.{needs}
 use Rattle.verdicts.proofs.mark_verdict.Statement.{statement}

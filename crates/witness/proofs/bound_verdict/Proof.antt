@@ -2,8 +2,8 @@
 use native.Mathlib.Omega.{arith}
 use denote.Ref.{now}
 use mathlib.Core.Bool.{not}
-use Rattle.theory.specs.Pairing.{paired, unpaired}
-use Rattle.theory.proofs.Count.{count-le}
+use Rattle.graphs.specs.Pairing.{paired, unpaired}
+use Rattle.graphs.proofs.Count.{count-le}
 use Rattle.rows.specs.Sheet.{order, graphOf}
 use Rattle.sheet.proofs.Read.{order-most}
 use Rattle.causes.specs.Given.{mateOf}

@@ -3,7 +3,7 @@ use mathlib.Core.Path.{refl, sym, _∙_}
 use native.Mathlib.Omega.{arith}
 use denote.Ref.{now}
 use mir.Facts.{toZ-ofZ}
-use Rattle.theory.proofs.Count.{clash}
+use Rattle.graphs.proofs.Count.{clash}
 use Rattle.weights.proofs.Signed.{small-fits}
 use Rattle.witness.proofs.Checker.{passed-surplus}
 use Rattle.witness.proofs.Verdicts.{surplus-refused, surplus-given}

@@ -1,6 +1,7 @@
 -- `edges` meets its contract: it is refused, or `list_all` lists the pairs. Assumes nothing.
 use mathlib.Core.Path.{refl, sym, _∙_}
-use Rattle.pairing.specs.Answers.{edgesAnswer, padded}
+use Rattle.listing.specs.Listing.{padded}
+use Rattle.pairing.specs.Answers.{edgesAnswer}
 use Rattle.pairing.proofs.Steps.{sound-ready}
 use borrow.Author.Needs.{needs}
 use Rattle.pairing.proofs.Pairing.edges.Statement.{statement}

@@ -2,8 +2,8 @@
 use Rattle.limits.specs.Limits.{routes, none}
 use mathlib.Core.Path.{refl}
 use lib.ListN.{getD-replicate}
-use Rattle.refusals.specs.Partners.{fresh}
-use Rattle.refusals.proofs.Sound.{fresh-count}
+use Rattle.mates.specs.Partners.{fresh}
+use Rattle.mates.proofs.Sound.{fresh-count}
 use Rattle.pairing.proofs.Pairing.new.Statement.{statement}
 use Rattle.pairing.proofs.Pairing.new.Tie as tie
 

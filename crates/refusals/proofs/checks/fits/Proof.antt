@@ -1,6 +1,6 @@
 -- `fits` meets its contract: each way out is a case of the definition. Assumes nothing.
 use borrow.Author.Tests.{lt-ltb, le-ltb, eq-eqb, ne-eqb}
-use Rattle.refusals.specs.Partners.{fits}
+use Rattle.mates.specs.Partners.{fits}
 use borrow.Author.Needs.{needs}
 use Rattle.refusals.proofs.checks.fits.Statement.{statement}
 use Rattle.refusals.proofs.checks.fits.Tie as tie

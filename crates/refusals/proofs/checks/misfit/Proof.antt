@@ -3,9 +3,9 @@ use Prim.Native.Nat.{_≤_, _-_}
 use mathlib.Core.Path.{_≡_, refl, sym}
 use mathlib.Core.Bool.{not}
 use Rattle.limits.specs.Limits.{routes}
-use Rattle.theory.specs.Count.{least}
-use Rattle.theory.proofs.Count.{least-none, least-past, least-at, least-end}
-use Rattle.refusals.specs.Partners.{fits}
+use Rattle.graphs.specs.Count.{least}
+use Rattle.graphs.proofs.Count.{least-none, least-past, least-at, least-end}
+use Rattle.mates.specs.Partners.{fits}
 use Rattle.refusals.specs.Reply.{misfit}
 use borrow.Author.Needs.{needs}
 use Rattle.refusals.proofs.checks.misfit.Statement.{statement}

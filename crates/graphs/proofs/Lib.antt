@@ -1,0 +1,12 @@
+pub mod Layouts
+pub mod Count
+pub mod Graph
+pub mod Tests
+pub mod Excluded
+pub mod Parts
+pub mod Pairing
+pub mod Bound
+pub mod Largest
+pub mod Plan
+pub mod Samples
+pub mod Sets

@@ -1,0 +1,2 @@
+-- To be believed, with Partners of the crate refusals: Listing (the pairs of a table, by lower id).
+pub mod Listing
