@@ -1,2 +1,2 @@
--- To be believed, with Partners of the crate refusals: Listing (the pairs of a table, by lower id).
+-- To be believed, with Partners of the crate mates: Listing (the pairs of a table, by lower id).
 pub mod Listing
