@@ -1,12 +1,12 @@
 // The numbers of an answer of the exported calls, eight bytes each: the first three, which every call answers, the four
 // that improve answers after them, and the surplus in two's complement. The calls themselves stand in the crate `wisharek`.
 use limits::Told;
-use words::put_long;
+use longs::put_long;
 ghost use mathlib.Core.Path.{_≡_};
 ghost use Prim.Native.Nat.{_≤_};
 ghost use lib.IntN.{subℕ};
 ghost use Rattle.limits.specs.Limits.{routes};
-ghost use Rattle.words.specs.Words.{putLong};
+ghost use Rattle.longs.specs.Longs.{putLong};
 ghost use Rattle.answers.specs.Twos.{twos};
 
 // The first three numbers of an answer.

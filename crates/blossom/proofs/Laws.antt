@@ -7,11 +7,11 @@ use native.Mathlib.Omega.{arith}
 use native.Mathlib.Numerals.{add-one}
 use borrow.Author.Tests.{eq-eqb, ne-eqb}
 use Rattle.limits.specs.Limits.{routes}
-use Rattle.theory.specs.Search.Tables.{groups, cell, store, oneMore, inner, Line, Rings, Tables}
+use Rattle.theory.specs.Search.Tables.{groups, cell, store, oneMore, inner, Line, Rings}
 use Rattle.theory.specs.Search.Start.{enter}
-use Rattle.theory.specs.Search.Rings.{Way, left, right, stride, bridge, linked, admit, around, regroup, shift, absorb, contract}
+use Rattle.theory.specs.Search.Rings.{admit, around, regroup, shift, absorb}
 use Rattle.theory.proofs.Search.Steps.{around-none, around-again, shift-again}
-use Rattle.tables.specs.Shapes.{line, rings, way, tables, tree}
+use Rattle.tables.specs.Shapes.{line, rings, way, tables}
 
 -- the size of a table of groups
 abbrev G : ℕ
@@ -70,8 +70,3 @@ unfolding absorb
 absorbed n top top′ root root′ base base′ rank rank′ half half′ label label′ queue queue′ up up′ next tail tail′ ids ids′ v x k c g e₁ e₂ e₃ e₄ e₅ e₆ e₇ e₈ e₉ e₁₀ mate parent out into y q hit one two =
     ap (λ (l : Line). tables n mate parent top′ root′ base′ rank′ half′ l (rings up′ next out into) ids′ hit one two) e₉
     ∙ rw (e₄, e₃, e₅, e₆, e₇, e₈, e₁₀, add-one (k + k), e₁, e₂) refl
-
-pub contracted : (s : Tables) (v w : ℕ) (z : Way) (st : Tables) → z ≡ linked routes (tree (s .mate) (s .parent) (s .top) (s .base) (s .rank) (s .rings) (s .ids)) v w → st ≡ absorb routes s v z
-    → st ≡ contract routes s v w
-unfolding contract linked stride left right bridge
-contracted s v w z st a b = b ∙ ap (absorb routes s v) a

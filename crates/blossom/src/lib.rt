@@ -1,4 +1,4 @@
-// A ring becomes a group. The walks of crate `walks` have stored the ring; here its inner routes turn outer and are queued,
+// A ring becomes a group. The walks of crate `linked` have stored the ring; here its inner routes turn outer and are queued,
 // and its routes are told their new group. Each function takes the tables that it touches, and its contract holds whatever
 // the others are.
 use forest::enter;
@@ -11,14 +11,13 @@ use tables::copy_group;
 use tables::one_more;
 use tables::put;
 use tables::put_group;
-use walks::linked;
 ghost use mathlib.Core.Path.{_≡_};
 ghost use mathlib.Core.Bool.{Bool};
 ghost use mathlib.Core.List.{List};
 ghost use Prim.Native.Nat.{ℕ};
 ghost use Rattle.limits.specs.Limits.{routes};
 ghost use Rattle.theory.specs.Search.Tables.{Rings};
-ghost use Rattle.theory.specs.Search.Rings.{admit, around, regroup, shift, absorb, contract};
+ghost use Rattle.theory.specs.Search.Rings.{admit, around, regroup, shift, absorb};
 ghost use Rattle.tables.specs.Shapes.{line, rings, way, tables};
 
 // The queue's tail, and how many groups there are.
@@ -82,7 +81,7 @@ fn shift(up: &[u32; GROUPS], b: u32, n: u32, top: &mut [u32; ROUTES])
 }
 
 // The ring becomes a group, with the root, the base and the rank of the group in which the walks have met.
-fn absorb(
+pub fn absorb(
     n: u32,
     top: &mut [u32; ROUTES],
     root: &mut [u32; GROUPS],
@@ -117,64 +116,4 @@ fn absorb(
         tail: t,
         ids: one_more(ids),
     }
-}
-
-// The ring that the edge between v and w closes becomes a group.
-pub fn contract(
-    n: u32,
-    mate: &[u32; ROUTES],
-    parent: &[u32; ROUTES],
-    top: &mut [u32; ROUTES],
-    root: &mut [u32; GROUPS],
-    base: &mut [u32; GROUPS],
-    rank: &mut [u32; GROUPS],
-    half: &mut [u32; GROUPS],
-    label: &mut [u32; ROUTES],
-    queue: &mut [u32; ROUTES],
-    up: &mut [u32; GROUPS],
-    next: &mut [u32; GROUPS],
-    out: &mut [u32; GROUPS],
-    into: &mut [u32; GROUPS],
-    tail: u32,
-    ids: u32,
-    v: u32,
-    w: u32,
-) -> Counts
-    ensures { λ r. ⌜ ((hit : Bool) (one two : ℕ)
-        → tables n (now (mate .entry)) (now (parent .entry)) (now (top .exit)) (now (root .exit)) (now (base .exit)) (now (rank .exit)) (now (half .exit)) (line (now (label .exit)) (now (queue .exit)) (r .tail)) (rings (now (up .exit)) (now (next .exit)) (now (out .exit)) (now (into .exit))) (r .ids) hit one two
-        ≡ contract routes (tables n (now (mate .entry)) (now (parent .entry)) (now (top .entry)) (now (root .entry)) (now (base .entry)) (now (rank .entry)) (now (half .entry)) (line (now (label .entry)) (now (queue .entry)) tail) (rings (now (up .entry)) (now (next .entry)) (now (out .entry)) (now (into .entry))) ids hit one two) v w) ⌝ }
-{
-    let z = linked(
-        mate,
-        parent,
-        top,
-        base,
-        rank,
-        up,
-        next,
-        out,
-        into,
-        ids,
-        v,
-        w,
-    );
-    let x = z.x;
-    let k = z.k;
-    absorb(
-        n,
-        top,
-        root,
-        base,
-        rank,
-        half,
-        label,
-        queue,
-        up,
-        next,
-        tail,
-        ids,
-        v,
-        x,
-        k,
-    )
 }

@@ -1,17 +1,18 @@
--- How the reader works, and nothing that has to be believed: the marks of all rows; the last place of each id in a row; and the checks of an entry
--- by these two tables.
+-- How the reader works, and nothing that has to be believed: the marks of all rows; and the checks of the rows by this table and by that of the last
+-- places.
 use Prim.Native.Nat.{ℕ, zero, suc}
 use mathlib.Core.Bool.{cond}
 use mathlib.Core.List.{List}
-use lib.ListN.{length, getD, set, replicate}
-use lib.Dec.{ltb}
-use Rattle.limits.specs.Limits.{routes, none}
+use lib.ListN.{length, getD}
+use Rattle.limits.specs.Limits.{none}
 use Rattle.graphs.specs.Graph.{Graph}
 use Rattle.words.specs.Words.{over}
 use Rattle.replies.specs.Reply.{firstOf}
 use Rattle.replies.specs.declared.Reply.{Reply}
-use Rattle.replies.specs.declared.Reply.the-variants.{Accepted, UnknownId, DuplicateEdge, MissingEdge, Loop}
+use Rattle.replies.specs.declared.Reply.the-variants.{Accepted, Loop}
 use Rattle.marks.specs.Marks.{marked, mark}
+use Rattle.places.specs.Places.{lastPlaces, unkept}
+use Rattle.one_entry.specs.OneEntry.{quickEntry}
 
 -- every entry of row v marked
 unfoldable pub markRow : List ℕ → ℕ → List ℕ → List ℕ
@@ -21,29 +22,6 @@ markRow t v ws = over (λ i w u. mark u v w) t 0 ws
 unfoldable pub markRows : Graph → ℕ → List ℕ → List ℕ
 markRows g zero t = t
 markRows g (suc k) t = markRow (markRows g k t) k (g .row k)
-
--- the place kept for w
-unfoldable pub kept : List ℕ → ℕ → ℕ
-kept t w = cond (ltb w routes) (getD t w 0) 0
-
--- the place of w set to i
-unfoldable pub keep : List ℕ → ℕ → ℕ → List ℕ
-keep t w i = cond (ltb w routes) (set t w i) t
-
--- the place of each entry kept in turn, so that the last place of each id stays
-unfoldable pub lastPlaces : List ℕ → List ℕ → List ℕ
-lastPlaces t ws = over (λ i w u. keep u w i) t 0 ws
-
--- no place kept
-unfoldable pub unkept : List ℕ
-unkept = replicate routes 0
-
--- 4, 5 and 6 for the entry w at place i of row v, by the tables; n is the order
-unfoldable pub quickEntry : List ℕ → List ℕ → ℕ → ℕ → ℕ → ℕ → Reply
-quickEntry marks last n v w i =
-    cond (ltb w n)
-    (cond (ltb i (kept last w)) (DuplicateEdge v w) (cond (marked marks w v) Accepted (MissingEdge w v)))
-    (UnknownId w)
 
 -- the entries of row v in turn
 unfoldable pub quickRow : List ℕ → List ℕ → ℕ → ℕ → List ℕ → Reply

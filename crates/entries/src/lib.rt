@@ -1,10 +1,12 @@
 // Refusals 4 to 7, by two tables: who names whom, from one run over all entries, and the last place of each id in a
 // row, from one run over the row. So an entry is answered in a few steps, whatever the bytes. Below stand the crates
-// `replies`, what a sheet is answered, and `marks`, the first of the two tables.
+// `replies`, what a sheet is answered, `marks` and `places`, the two tables, and `one_entry`, an entry by the tables.
 use limits::ROUTES;
 use marks::MARKS;
 use marks::mark;
 use marks::marked;
+use one_entry::reply_to_entry;
+use places::keep_places;
 use replies::Reply;
 use replies::refuses;
 use rows::order;
@@ -16,8 +18,9 @@ ghost use Rattle.limits.specs.Limits.{routes};
 ghost use Rattle.words.specs.Words.{numbers};
 ghost use Rattle.rows.specs.Sheet.{order, graphOf};
 ghost use Rattle.replies.specs.Reply.{first};
+ghost use Rattle.places.specs.Places.{lastPlaces, unkept};
 ghost use Rattle.entries.specs.Entries.{rowsReply, loopReply};
-ghost use Rattle.entries.specs.Quick.{markRow, markRows, kept, keep, lastPlaces, unkept, quickEntry, quickRow, quickRows, quickLoop};
+ghost use Rattle.entries.specs.Quick.{markRow, markRows, quickRow, quickRows, quickLoop};
 
 // Every entry of row v marked.
 fn mark_row(row: &[u8], v: u32, t: &mut [u32; MARKS])
@@ -41,59 +44,6 @@ fn mark_rows(s: &[u8], t: &mut [u32; MARKS])
         mark_row(row(s, v), v, t);
         v += 1;
     }
-}
-
-// The place kept for w.
-fn kept(t: &[usize; ROUTES], w: u32) -> usize
-    ensures { λ r. ⌜ r ≡ kept (now (t .entry)) w ⌝ }
-{
-    let k = w as usize;
-    if k < ROUTES { t[k] } else { 0 }
-}
-
-// The place of w set to i.
-fn keep(t: &mut [usize; ROUTES], w: u32, i: usize)
-    ensures { λ _. ⌜ now (t .exit) ≡ keep (now (t .entry)) w i ⌝ }
-{
-    let k = w as usize;
-    if k < ROUTES {
-        t[k] = i;
-    }
-}
-
-// The last place of each id in the row.
-fn keep_places(row: &[u8], t: &mut [usize; ROUTES])
-    ensures { λ _. ⌜ now (t .exit) ≡ lastPlaces (now (t .entry)) (numbers (now (row .entry))) ⌝ }
-{
-    let m = row.len() / 4;
-    let mut i = 0;
-    while i < m {
-        keep(t, word_at(row, i), i);
-        i += 1;
-    }
-}
-
-// 4, 5 and 6 for the entry w at place i of row v.
-fn reply_to_entry(
-    marks: &[u32; MARKS],
-    last: &[usize; ROUTES],
-    n: u32,
-    v: u32,
-    w: u32,
-    i: usize,
-) -> Reply
-    ensures { λ r. ⌜ r ≡ quickEntry (now (marks .entry)) (now (last .entry)) n v w i ⌝ }
-{
-    if n <= w {
-        return Reply::UnknownId { entry: w };
-    }
-    if i < kept(last, w) {
-        return Reply::DuplicateEdge { row: v, entry: w };
-    }
-    if marked(marks, w, v) {
-        return Reply::Accepted;
-    }
-    Reply::MissingEdge { entry: w, row: v }
 }
 
 // The entries of row v in turn, the last place of each id being known.

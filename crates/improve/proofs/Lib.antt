@@ -1,4 +1,3 @@
-mod Climbing
 pub mod Meaning
 mod Working
 pub mod Calls

@@ -21,8 +21,8 @@ use Rattle.sheet.proofs.Read.{order-most}
 use Rattle.witness.specs.Promise.{Begins}
 use Rattle.buffers.specs.Held.{partnersOf}
 use Rattle.buffers.proofs.Written.{listed-length, listed-at}
+use Rattle.climb.specs.Climb.{Climbs}
 use Rattle.improve.specs.Choice.{improved, last, finishedBy, witnessBy}
-use Rattle.improve.specs.Climb.{Climbs}
 use Rattle.improve.proofs.Meaning.{left-length, witness-length}
 
 -- ---- a cell by its number, and as the list has it

@@ -1,24 +1,24 @@
 // At most so many pairs more, from the pairing that is lent. The work is done in local tables, and the lent bytes are
-// written in one last step, behind which only the size is read from them. A refusal leaves them alone.
+// written in one last step, behind which only the size is read from them. A refusal leaves them alone. The searches stand in
+// the crate `climb`.
 use buffers::load;
 use buffers::pairs_of;
 use buffers::save;
 use buffers::save_marks;
+use climb::climb;
 use limits::NONE;
 use limits::ROUTES;
 use rows::order;
-use search::searched;
 use verdicts::Verdict;
 use verdicts::refuses;
 use witness::improve_verdict;
 ghost use mathlib.Core.Path.{_≡_};
 ghost use lib.ListN.{getD};
-ghost use Rattle.limits.specs.Limits.{routes, none};
+ghost use Rattle.limits.specs.Limits.{none};
 ghost use Rattle.words.specs.Words.{bytesTo};
-ghost use Rattle.rows.specs.Sheet.{order, graphOf};
+ghost use Rattle.rows.specs.Sheet.{order};
 ghost use Rattle.witness.specs.Promise.{Begins};
 ghost use Rattle.improve.specs.Choice.{improved, last, finishedBy, witnessBy};
-ghost use Rattle.improve.specs.Climb.{Climbs};
 ghost use Rattle.improve.specs.Promise.{Improve};
 
 // The answer of `improve`.
@@ -28,22 +28,6 @@ pub struct Improved {
     pub size: u32,
     pub finished: u32,
     pub sessions: u32,
-}
-
-// At most `budget` searches, and a last one on a copy of the partners: whether that finds nothing. Then the labels are
-// those of the last search.
-fn climb(s: &[u8], p: &mut [u32; ROUTES], label: &mut [u32; ROUTES], budget: u32) -> bool
-    ensures { λ r. ⌜ Climbs routes (graphOf (now (s .entry))) (now (p .entry)) (now (p .exit)) (now (label .exit)) budget r ⌝ }
-{
-    let mut k = 0;
-    while k < budget {
-        if !searched(s, p, label) {
-            return true;
-        }
-        k += 1;
-    }
-    let mut copy = *p;
-    !searched(s, &mut copy, label)
 }
 
 // The work, from bytes that have passed the checks: 1 where no larger pairing exists.

@@ -9,9 +9,9 @@ use Rattle.limits.specs.Limits.{routes}
 use Rattle.graphs.specs.Count.{bit}
 use Rattle.graphs.proofs.Count.{count-le}
 use Rattle.mates.specs.Partners.{isPaired, countOf, Sound, freed, paired, idAt, after, augmented}
-use Rattle.refusals.specs.Reply.{pathReply}
+use Rattle.paths.specs.Paths.{pathReply}
 use Rattle.refusals.specs.declared.Refusal.the-variants.{Accepted}
-use Rattle.refusals.proofs.Replies.{path-accepted}
+use Rattle.paths.proofs.Replies.{path-accepted}
 use Rattle.mates.proofs.Sound.{paired-count, freed-count, freed-sound}
 use Rattle.joins.proofs.Paths.{after-next, after-sound}
 

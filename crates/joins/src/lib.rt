@@ -2,13 +2,13 @@
 // `pairing` calls both behind its checks.
 use limits::ROUTES;
 use mates::free;
-use refusals::checks::id_at;
+use paths::id_at;
 ghost use mathlib.Core.Path.{_≡_};
 ghost use mathlib.Core.Logic.{_≢_};
 ghost use Prim.Native.Nat.{_<_};
 ghost use Rattle.limits.specs.Limits.{routes};
 ghost use Rattle.mates.specs.Partners.{Sound, countOf, paired, augmented};
-ghost use Rattle.refusals.specs.Reply.{pathReply};
+ghost use Rattle.paths.specs.Paths.{pathReply};
 ghost use Rattle.refusals.specs.declared.Refusal.the-variants.{Accepted};
 
 // a and b made partners, and their old partners free; the answer is how many ids are paired then. The count before it and

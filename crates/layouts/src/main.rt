@@ -1,7 +1,9 @@
 // Runs the layouts of the scope through the exported calls, and prints a line for each: what is lent, the entry total that
 // the sheet says, then what `wisharek_improve` answers, the unpaired routes counted from the bytes that it left, and what
-// `wisharek_check` says of them. A reply is number, A and B. The file `stdout` beside `src/` is written from the scope and
-// the table of refusals, and not from a run of this program.
+// `wisharek_check` says of them. A reply is number, A and B. The file `stdin` beside `src/` has the sheets that are improved
+// from nothing and once, one to a line; the claw and the ten routes are made here. The file `stdout` is written from the scope
+// and the table of refusals, and not from a run of this program.
+use libc::STDIN_FILENO;
 use limits::NONE;
 use limits::ROUTES;
 use printing::field;
@@ -10,8 +12,13 @@ use samples::ALL;
 use samples::LARGE;
 use samples::SMALL;
 use samples::front;
+use samples::is_told;
+use samples::line_end;
 use samples::long_at;
+use samples::number_from;
+use samples::place_of;
 use samples::put_all;
+use samples::put_numbers;
 use samples::put_ten;
 use samples::put_words;
 use samples::sheet_length;
@@ -22,6 +29,9 @@ use words::put_word;
 use words::word_at;
 ghost use Prim.Native.Nat.{_≤_};
 
+// Room for the bytes of the sheets' lines.
+const BYTES: usize = 65536;
+
 // Room for a set of one route more than the most.
 const WITNESS: usize = ROUTES + 1;
 
@@ -31,20 +41,25 @@ const PAIRING: usize = 4 * WITNESS;
 // The bytes of a pairing of ten routes.
 const TEN: usize = 40;
 
+// Writes number k of an answer with its name before it.
+fn told(name: &[u8], answer: &[u8], k: u32) {
+    field(name, long_at(answer, k));
+}
+
 // Writes number, A and B of an answer.
 fn reply(name: &[u8], answer: &[u8]) {
-    field(name, long_at(answer, 0));
-    field(b" ", long_at(answer, 1));
-    field(b" ", long_at(answer, 2));
+    told(name, answer, 0);
+    told(b" ", answer, 1);
+    told(b" ", answer, 2);
 }
 
 // Writes the numbers that improve answers.
 fn improved(answer: &[u8]) {
     reply(b" improve ", answer);
-    field(b", added ", long_at(answer, 3));
-    field(b", size ", long_at(answer, 4));
-    field(b", finished ", long_at(answer, 5));
-    field(b", sessions ", long_at(answer, 6));
+    told(b", added ", answer, 3);
+    told(b", size ", answer, 4);
+    told(b", finished ", answer, 5);
+    told(b", sessions ", answer, 6);
 }
 
 // Writes the entry total, where the sheet is long enough to say one.
@@ -120,50 +135,49 @@ fn from_nothing(label: &[u8], s: &[u8], n: usize) {
     line(label, s, &mut pairing[z..end], &mut witness[z..n], ALL);
 }
 
-// The line of the sheet in which all of n routes are joined, of so many entries.
-fn all_of(label: &[u8], s: &mut [u8; LARGE], n: u32, total: u32) {
-    put_all(s, n);
-    from_nothing(label, front(s, sheet_length(n, total)), n as usize);
+// The line of the sheet that ends after so many bytes, from nothing, with the buffers of the routes that it says first.
+fn from_sheet(label: &[u8], s: &[u8; LARGE], bytes: usize) {
+    from_nothing(label, front(s, bytes), word_at(s, 0) as usize);
 }
 
-// Entry numbers up to 65,535 and above.
-fn all_joined(s: &mut [u8; LARGE]) {
-    // the most entries whose numbers fit 16 bits
-    all_of(b"all of 256", s, 256, 65280);
-    // one route more, and they do not; it stays unpaired
-    all_of(b"all of 257", s, 257, 65792);
-    // the largest sheet
-    all_of(b"all of 512", s, 512, 261632);
+// The line of the sheet whose length in bytes and first numbers stand from a place on.
+fn given(line: &[u8], at: usize) {
+    let mut s = [0u8; LARGE];
+    let bytes = number_from(line, at);
+    put_numbers(&mut s, line, bytes.next);
+    from_sheet(front(line, at), &s, bytes.x as usize);
 }
 
-// One route too many; the bytes lent are all 0.
-fn too_many(s: &mut [u8; LARGE]) {
-    put_word(s, 0, 513);
-    // too few bytes to say so
-    from_nothing(b"n = 513 in 7 bytes", front(s, 7), 513);
-    // enough
-    from_nothing(b"n = 513 in 8 bytes", front(s, 8), 513);
-    // the contents begun
-    from_nothing(b"n = 513 in 12 bytes", front(s, 12), 513);
-    // the contents whole: 513 routes, none of them joined
-    from_nothing(b"n = 513 in 2060 bytes", front(s, 2060), 513);
+// The line of the sheet in which all of n routes are joined, by n and its total, which stand from a place on.
+fn joined(line: &[u8], at: usize) {
+    let mut s = [0u8; LARGE];
+    let n = number_from(line, at);
+    let total = number_from(line, n.next);
+    put_all(&mut s, n.x);
+    from_sheet(front(line, at), &s, sheet_length(n.x, total.x));
 }
 
-// The line of the sheet that has these words and ends after so many bytes.
-fn given(label: &[u8], words: &[u32], bytes: usize, n: usize) {
-    let mut s = [0u8; SMALL];
-    put_words(&mut s, 0, words);
-    from_nothing(label, small(&s, bytes), n);
+// The line of a sheet that `stdin` has.
+fn case(line: &[u8]) {
+    let colon = place_of(line, b':');
+    if colon < line.len() {
+        given(line, colon);
+        return;
+    }
+    joined(line, place_of(line, b';'));
 }
 
-// Rows that are refused.
-fn refused() {
-    // a route that is its own neighbour
-    given(b"rows [0]", &[1, 0, 1, 0], 16, 1);
-    // and that twice
-    given(b"rows [0,0]", &[1, 0, 2, 0, 0], 20, 1);
-    // an edge that only its first route names
-    given(b"rows [1] []", &[2, 0, 1, 1, 1], 20, 2);
+// All these sheets, in turn.
+fn cases(text: &[u8]) {
+    let mut at = 0;
+    while at < text.len() {
+        let end = line_end(text, at);
+        let line = &text[at..end];
+        if is_told(line) {
+            case(line);
+        }
+        at = end + 1;
+    }
 }
 
 // The line of the claw: 0 joined to 1, 2, 3.
@@ -209,10 +223,9 @@ fn tens() {
 }
 
 fn main() {
-    let mut s = [0u8; LARGE];
-    too_many(&mut s);
-    all_joined(&mut s);
-    refused();
+    let mut text = [0u8; BYTES];
+    let n = io::read_full(STDIN_FILENO, &mut text);
+    cases(front(&text, n));
     claws();
     tens();
 }

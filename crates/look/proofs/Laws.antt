@@ -5,24 +5,9 @@ use mathlib.Core.Bool.{Bool, true, false}
 use lib.Dec.{eqb}
 use borrow.Author.Tests.{eq-eqb, ne-eqb}
 use Rattle.limits.specs.Limits.{routes}
-use Rattle.theory.specs.Search.Tables.{groups, cell, unreached, inner, Tables}
+use Rattle.theory.specs.Search.Tables.{cell, unreached, inner, Tables}
 use Rattle.theory.specs.Search.Grow.{grow}
-use Rattle.theory.specs.Search.Rings.{contract}
-use Rattle.theory.specs.Search.Look.{strike, touch, look}
-use Rattle.tables.specs.Shapes.{tables}
-
--- the tables with the edge (v, w) found
-abbrev pub struck : Tables → ℕ → ℕ → Tables
-struck s v w = tables (s .order) (s .mate) (s .parent) (s .top) (s .root) (s .base) (s .rank) (s .half) (s .line) (s .rings) (s .ids) true v w
-
-module _ (s : Tables) (v w g h p q : ℕ) (eg : g ≡ cell routes (s .top) v) (eh : h ≡ cell routes (s .top) w) (ep : p ≡ cell (groups routes) (s .root) g) (eq : q ≡ cell (groups routes) (s .root) h) where
-  pub touched : p ≡ q → (st : Tables) → st ≡ contract routes s v w → st ≡ touch routes s v w
-  unfolding touch
-  touched h st e = e ∙ rw (← eg, ← eh, ← ep, ← eq, eq-eqb p q h) refl
-
-  pub hit-there : (p ≡ q → ⊥) → struck s v w ≡ touch routes s v w
-  unfolding touch strike
-  hit-there h = rw (← eg, ← eh, ← ep, ← eq, ne-eqb p q h) refl
+use Rattle.theory.specs.Search.Look.{touch, look}
 
 module _ (s : Tables) (v w : ℕ) (quiet : s .hit ≡ false) (m : Bool) (em : m ≡ eqb (cell routes (s .top) w) (cell routes (s .top) v)) where
   pub look-same : m ≡ true → s ≡ look routes s v w

@@ -1,5 +1,5 @@
 // The table of partners of a pairing by itself: place i holds the partner of id i, or none. What an operation on it is
-// refused with stands in the crate `refusals`, new pairs in `joins`.
+// refused with stands in the crates `refusals`, `checks` and `paths`, new pairs in `joins`.
 use limits::NONE;
 use limits::ROUTES;
 ghost use mathlib.Core.Path.{_≡_};

@@ -9,10 +9,11 @@ use Rattle.limits.specs.Limits.{routes}
 use Rattle.graphs.specs.Count.{least}
 use Rattle.graphs.proofs.Count.{cases}
 use Rattle.mates.specs.Partners.{countOf, Sound, Pairable, fresh, paired, augmented}
-use Rattle.refusals.specs.Reply.{pairingReply, idReply, pairReply, unknown, selfPair, pathReply}
+use Rattle.checks.specs.Checks.{pairingReply, idReply, pairReply}
+use Rattle.paths.specs.Paths.{unknown, selfPair, pathReply}
 use Rattle.refusals.specs.declared.Refusal.the-variants.{Accepted}
 use Rattle.mates.proofs.Sound.{fresh-sound, fresh-count, paired-sound}
-use Rattle.refusals.proofs.Replies.{sound-accepted}
+use Rattle.checks.proofs.Replies.{sound-accepted}
 use Rattle.pairing.specs.Answers.{pairAnswer, augmentAnswer}
 use Rattle.pairing.specs.declared.Pairing.{Pairing}
 use Rattle.joins.proofs.Paths.{augmented-sound, augmented-cons, augmented-empty}

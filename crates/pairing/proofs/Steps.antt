@@ -7,10 +7,13 @@ use mathlib.Core.List.{List}
 use lib.ListN.{length}
 use Rattle.limits.specs.Limits.{routes}
 use Rattle.mates.specs.Partners.{countOf, Sound}
-use Rattle.refusals.specs.Reply.{refuses, first, pairingReply, pairReply, pathReply}
+use Rattle.refusals.specs.Reply.{refuses, first}
+use Rattle.checks.specs.Checks.{pairingReply, pairReply}
+use Rattle.paths.specs.Paths.{pathReply}
 use Rattle.refusals.specs.declared.Refusal.{Refusal}
 use Rattle.refusals.specs.declared.Refusal.the-variants.{Accepted}
-use Rattle.refusals.proofs.Replies.{not-refused, first-accepted, pairing-accepted, pair-accepted}
+use Rattle.refusals.proofs.Replies.{not-refused, first-accepted}
+use Rattle.checks.proofs.Replies.{pairing-accepted, pair-accepted}
 
 -- ---- the ways out of an operation, R being the reply that its definition names
 

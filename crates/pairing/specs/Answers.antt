@@ -3,7 +3,9 @@ use Prim.Native.Nat.{ℕ}
 use mathlib.Core.Bool.{false, cond}
 use mathlib.Core.List.{List, []}
 use Rattle.mates.specs.Partners.{mateOf, isPaired, countOf, paired, augmented}
-use Rattle.refusals.specs.Reply.{refuses, first, pairingReply, idReply, pairReply, pathReply, mateReply}
+use Rattle.refusals.specs.Reply.{refuses, first}
+use Rattle.checks.specs.Checks.{pairingReply, idReply, pairReply, mateReply}
+use Rattle.paths.specs.Paths.{pathReply}
 use Rattle.refusals.specs.declared.Refusal.{Refusal}
 use Rattle.refusals.specs.declared.Refusal.the-variants.{Accepted}
 use Rattle.listing.specs.Listing.{padded, edgesIn}

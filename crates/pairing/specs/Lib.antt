@@ -1,2 +1,3 @@
--- To be believed, with Partners of the crate mates, Reply of the crate refusals and Listing of the crate listing: Answers (what each operation answers).
+-- To be believed, with Partners of the crate mates, Reply of the crate refusals, Checks of the crate checks, Paths of the crate paths and Listing of the crate
+-- listing: Answers (what each operation answers).
 pub mod Answers

@@ -1,8 +1,12 @@
 // A pairing by itself: for each id its partner, and how many ids have one. It is one value of fixed size. Each operation
 // takes the pairing by value and checks it before all else; `pair` and `augment` hand back the next one, or the same one
 // where they are refused, and the others, which take a copy as well, answer what was asked. Below stand the crates
-// `mates`: the table of partners, `refusals`: the refusals in the order of their numbers, `joins`: new pairs in the table, and
-// `listing`: the pairs of the table, by lower id.
+// `mates`: the table of partners, `refusals`: what is refused, `checks` and `paths`: the refusals in the order of their numbers,
+// `joins`: new pairs in the table, and `listing`: the pairs of the table, by lower id.
+use checks::id_refusal;
+use checks::mate_refusal;
+use checks::pair_refusal;
+use checks::pairing_refusal;
 use joins::join;
 use joins::join_all;
 use limits::NONE;
@@ -12,14 +16,10 @@ pub use listing::HALF;
 use listing::list_all;
 use mates::is_paired;
 use mates::partner_of;
+use paths::path_refusal;
 pub use refusals::Refusal;
-use refusals::checks::first;
-use refusals::checks::id_refusal;
-use refusals::checks::mate_refusal;
-use refusals::checks::pair_refusal;
-use refusals::checks::pairing_refusal;
-use refusals::checks::path_refusal;
-use refusals::checks::refuses;
+use refusals::first;
+use refusals::refuses;
 pub use refusals::tell;
 ghost use mathlib.Core.Path.{_≡_};
 ghost use Prim.Native.Nat.{ℕ, _<_};

@@ -2,11 +2,11 @@
 // queued at most once, so the queue has at most one row for each route.
 use limits::NONE;
 use limits::ROUTES;
-use look::Marks;
 use rows::row;
 use scan::scan_row;
 use tables::GROUPS;
 use tables::at;
+use touch::Marks;
 ghost use mathlib.Core.Path.{_≡_};
 ghost use mathlib.Core.Bool.{false};
 ghost use Rattle.limits.specs.Limits.{routes, none};

@@ -1,4 +1,2 @@
--- For the crates above: Replies and Exactly (when each refusal is given). Steps is for the proofs of this crate's functions alone.
+-- For the crates above: Replies (which reply does not refuse).
 pub mod Replies
-pub mod Exactly
-mod Steps

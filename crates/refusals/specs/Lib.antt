@@ -1,2 +1,2 @@
--- To be believed, with Partners of the crate mates: Reply (the refusals and their order).
+-- To be believed: Reply (the refusals, and what each is told as).
 pub mod Reply

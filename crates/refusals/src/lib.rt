@@ -1,12 +1,10 @@
-// Why an operation on a pairing is refused, and with which numbers: 10 and 13 to 16. `checks` has the refusals in the order
-// in which they are tried. The table of partners stands in the crate `mates`, the operations themselves in `pairing`.
+// Why an operation on a pairing is refused, and with which numbers: 10 and 13 to 16. The refusals in the order in which they
+// are tried stand in the crates `checks` and `paths`, the table of partners in `mates`, the operations themselves in `pairing`.
 use limits::ROUTES;
 use limits::Told;
 ghost use mathlib.Core.Path.{_≡_};
 ghost use Rattle.limits.specs.Answer.{told};
-ghost use Rattle.refusals.specs.Reply.{toldOf};
-
-pub mod checks;
+ghost use Rattle.refusals.specs.Reply.{toldOf, refuses, first};
 
 // Why an operation is refused.
 pub enum Refusal {
@@ -46,4 +44,29 @@ pub fn tell(r: Refusal) -> Told
         Refusal::SelfPair { position, id } => answer(15, position as u64, id as u64),
         Refusal::Unpaired { id } => answer(16, id as u64, 0),
     }
+}
+
+// Whether a reply refuses.
+pub fn refuses(r: Refusal) -> bool
+    ensures { λ b. ⌜ b ≡ refuses r ⌝ }
+{
+    match r {
+        Refusal::Accepted => false,
+        Refusal::BadPartner { id: _, value: _ } => true,
+        Refusal::WrongCount { count: _ } => true,
+        Refusal::OddPath { count: _ } => true,
+        Refusal::NoSuchId { position: _, id: _ } => true,
+        Refusal::SelfPair { position: _, id: _ } => true,
+        Refusal::Unpaired { id: _ } => true,
+    }
+}
+
+// The first of two replies that refuses.
+pub fn first(x: Refusal, y: Refusal) -> Refusal
+    ensures { λ r. ⌜ r ≡ first x y ⌝ }
+{
+    if refuses(x) {
+        return x;
+    }
+    y
 }

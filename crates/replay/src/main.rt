@@ -1,22 +1,21 @@
 // Replays recorded answers of gamma through the exported calls, and prints how many of them agree. The files `data/rising`
 // and `data/other` have one input to a line and what gamma said of it; README.md says how, and what agrees. The file `stdout`
 // beside `src/` is counted from them, and not from a run of this program.
-use limits::NONE;
 use printing::field;
 use printing::write;
 use samples::ALL;
+use samples::Read;
 use samples::count;
 use samples::front;
-use samples::is_digit;
+use samples::is_told;
+use samples::line_end;
 use samples::long_at;
+use samples::number_from;
 use samples::sheet_length;
-use samples::with_digit;
 use wisharek::wisharek_check;
 use wisharek::wisharek_improve;
 use words::put_word;
 use words::word_at;
-ghost use Prim.Native.Nat.{_≤_, _<_};
-ghost use lib.ListN.{length};
 
 // Room for a file's bytes, and one more.
 const BYTES: usize = 65536;
@@ -48,47 +47,6 @@ const KINDS: usize = 4;
 // A line that is passed over, and not counted.
 const PASSED: u32 = 4;
 
-// A number, and the place behind it.
-struct Read {
-    x: u32,
-    next: usize,
-}
-
-// The place of the first digit from a place on, or the end.
-fn digit_from(s: &[u8], at: usize) -> usize {
-    let mut i = at;
-    while i < s.len() {
-        if is_digit(s[i]) {
-            return i;
-        }
-        i += 1;
-    }
-    i
-}
-
-// The number whose digits begin at a place.
-fn digits(s: &[u8], at: usize) -> Read {
-    let mut x = 0;
-    let mut i = at;
-    while i < s.len() {
-        if !is_digit(s[i]) {
-            return Read { x, next: i };
-        }
-        x = with_digit(x, s[i]);
-        i += 1;
-    }
-    Read { x, next: i }
-}
-
-// The first number from a place on; none where there is none.
-fn number_from(s: &[u8], at: usize) -> Read {
-    let i = digit_from(s, at);
-    if s.len() <= i {
-        return Read { x: NONE, next: i };
-    }
-    digits(s, i)
-}
-
 // So many numbers of a line, from a place on, put as words of the sheet; the answer is the place behind them.
 fn copy(line: &[u8], at: usize, sheet: &mut [u8; SHEET], word: u32, count: u32) -> usize {
     let mut next = at;
@@ -119,6 +77,12 @@ fn put_sheet(line: &[u8], sheet: &mut [u8; SHEET]) -> usize {
     put_rows(line, n.next, sheet, n.x)
 }
 
+// v and w become partners.
+fn pair_up(pairing: &mut [u8; PAIRING], v: u32, w: u32) {
+    put_word(pairing, v as usize, w);
+    put_word(pairing, w as usize, v);
+}
+
 // The pairs of the start, which say first how many they are. The answer is the place behind them.
 fn put_start(line: &[u8], at: usize, pairing: &mut [u8; PAIRING]) -> usize {
     let count = number_from(line, at);
@@ -127,8 +91,7 @@ fn put_start(line: &[u8], at: usize, pairing: &mut [u8; PAIRING]) -> usize {
     while k < count.x {
         let v = number_from(line, next);
         let w = number_from(line, v.next);
-        put_word(pairing, v.x as usize, w.x);
-        put_word(pairing, w.x as usize, v.x);
+        pair_up(pairing, v.x, w.x);
         next = w.next;
         k += 1;
     }
@@ -261,28 +224,10 @@ fn placed(line: &[u8], sheet: &mut [u8; SHEET], pairing: &mut [u8; PAIRING]) -> 
 fn replay_line(line: &[u8]) -> u32 {
     let mut sheet = [0u8; SHEET];
     let mut pairing = [255u8; PAIRING];
-    if line.len() == 0 {
-        return PASSED;
-    }
-    if line[0] == 35 {
+    if !is_told(line) {
         return PASSED;
     }
     placed(line, &mut sheet, &mut pairing)
-}
-
-// The place of the next end of a line, or the end of the text.
-fn line_end(text: &[u8], at: usize) -> usize
-    requires { ⌜ at < length (now text) ⌝ }
-    ensures { λ r. ⌜ (at ≤ r) × (r ≤ length (now (text .entry))) ⌝ }
-{
-    let mut i = at;
-    while i < text.len() {
-        if text[i] == 10 {
-            return i;
-        }
-        i += 1;
-    }
-    i
 }
 
 // All lines, in turn.
@@ -295,15 +240,46 @@ fn replay(text: &[u8], counted: &mut [u64; KINDS]) {
     }
 }
 
+// Writes the words before a count, and the count.
+fn put_count(words: &[u8], counted: &[u64; KINDS], kind: usize) {
+    if kind < KINDS {
+        field(words, counted[kind]);
+    }
+}
+
+// Writes what was counted.
+fn put_counts(counted: &[u64; KINDS]) {
+    put_count(b" ", counted, 0);
+    put_count(b" refused alike, ", counted, 1);
+    put_count(b" with the same pairs, ", counted, 2);
+    put_count(b" with as many pairs, ", counted, 3);
+    write(b" differences\n");
+}
+
 // Replays a text, and writes what was counted.
 fn report(text: &[u8]) {
     let mut counted = [0u64; KINDS];
     replay(text, &mut counted);
-    field(b" ", counted[0]);
-    field(b" refused alike, ", counted[1]);
-    field(b" with the same pairs, ", counted[2]);
-    field(b" with as many pairs, ", counted[3]);
-    write(b" differences\n");
+    put_counts(&counted);
+}
+
+// Replays the first bytes of the buffer, which were read.
+fn replay_bytes(path: &[u8], text: &[u8; BYTES], n: usize) {
+    if BYTES <= n {
+        write(b"the file is too long\n");
+        return;
+    }
+    write(path);
+    write(b":");
+    report(front(text, n));
+}
+
+// Replays what an open file holds.
+fn replay_open(path: &[u8], fd: i32) {
+    let mut text = [0u8; BYTES];
+    let n = io::read_full(fd, &mut text);
+    libc::close(fd);
+    replay_bytes(path, &text, n);
 }
 
 // One file.
@@ -313,16 +289,7 @@ fn replay_file(path: &[u8]) {
         os::fail(path);
         return;
     }
-    let mut text = [0u8; BYTES];
-    let n = io::read_full(fd, &mut text);
-    libc::close(fd);
-    if BYTES <= n {
-        write(b"the file is too long\n");
-        return;
-    }
-    write(path);
-    write(b":");
-    report(&text[..n]);
+    replay_open(path, fd);
 }
 
 fn main() {

@@ -4,6 +4,7 @@
 // form that `drive` reads. The file `stdout` beside `src/` is counted from the sample, and not from a run of this program.
 use asked::AUGMENT;
 use asked::MATE;
+use asked::Reply;
 use asked::reply_to;
 use lent::end_of;
 use lent::ids_at;
@@ -18,7 +19,7 @@ use samples::with_digit;
 ghost use Prim.Native.Nat.{_≤_};
 
 // Room for the sample's bytes, and one more.
-const BYTES: usize = 262144;
+const BYTES: usize = 131072;
 
 // Room for its numbers.
 const NUMBERS: usize = 65536;
@@ -128,26 +129,30 @@ fn same_answer(code: u32, no: u32, value: u64, panicked: u32, said: u32) -> bool
     code == MATE && no == 16
 }
 
-// Whether the pairs of a pairing are those that stand in the table from a place on.
-fn same_pairs(p: Pairing, numbers: &[u32], at: usize, pairs: usize) -> bool {
-    let e = p.edges();
-    let lower = e.lower;
-    let upper = e.upper;
+// Whether two numbers stand in the table at a place.
+fn same_pair(numbers: &[u32], at: usize, lower: u32, upper: u32) -> bool {
+    if NUMBERS + 2 * HALF < at {
+        return false;
+    }
+    number_at(numbers, at) == lower && number_at(numbers, at + 1) == upper
+}
+
+// Whether the first pairs of two tables are those that stand in the table from a place on.
+fn same_pairs(numbers: &[u32], at: usize, lower: &[u32], upper: &[u32], pairs: usize) -> bool {
     if NUMBERS < at {
         return false;
     }
     if HALF < pairs {
         return false;
     }
-    if e.count != pairs {
-        return false;
-    }
     let mut k = 0;
     while k < pairs {
-        if number_at(numbers, at + 2 * k) != number_at(&lower, k) {
-            return false;
-        }
-        if number_at(numbers, at + 2 * k + 1) != number_at(&upper, k) {
+        if !same_pair(
+            numbers,
+            at + 2 * k,
+            number_at(lower, k),
+            number_at(upper, k),
+        ) {
             return false;
         }
         k += 1;
@@ -155,16 +160,62 @@ fn same_pairs(p: Pairing, numbers: &[u32], at: usize, pairs: usize) -> bool {
     true
 }
 
-// Whether a pairing has the order that stands at a place, and the pairs behind it.
-fn same_pairing(p: Pairing, numbers: &[u32], at: usize) -> bool {
-    if NUMBERS < at {
+// Whether the pairs of a pairing are those that stand in the table from a place on.
+fn same_edges(p: Pairing, numbers: &[u32], at: usize, pairs: usize) -> bool {
+    let e = p.edges();
+    let lower = e.lower;
+    let upper = e.upper;
+    if e.count != pairs {
         return false;
     }
-    let order = number_at(numbers, at);
+    same_pairs(numbers, at, &lower, &upper, pairs)
+}
+
+// Whether a pairing has the order that a line says behind its answer, and the pairs behind it.
+fn same_pairing(p: Pairing, numbers: &[u32], said: usize) -> bool {
+    if NUMBERS < said {
+        return false;
+    }
+    let order = number_at(numbers, said + 2);
     if p.order().ids != order {
         return false;
     }
-    same_pairs(p, numbers, at + 1, (order / 2) as usize)
+    same_edges(p, numbers, said + 3, (order / 2) as usize)
+}
+
+// Whether a reply is the answer that stands at a place.
+fn agrees(code: u32, no: u32, value: u64, numbers: &[u32], said: usize) -> bool {
+    if NUMBERS < said {
+        return false;
+    }
+    same_answer(
+        code,
+        no,
+        value,
+        number_at(numbers, said),
+        number_at(numbers, said + 1),
+    )
+}
+
+// Where the next line begins, by the order that stands two numbers behind a place.
+fn next_of(numbers: &[u32], said: usize) -> usize {
+    if NUMBERS < said {
+        return said;
+    }
+    said + 3 + number_at(numbers, said + 2) as usize
+}
+
+// What comes of a line, by the reply to its operation and the place where it says what gamma answered.
+fn compared(code: u32, reply: Reply, numbers: &[u32], said: usize) -> Replayed {
+    let pairing = reply.pairing;
+    let same = agrees(code, reply.told.no, reply.value, numbers, said);
+    Replayed {
+        code,
+        panicked: number_at(numbers, said) != 0,
+        agrees: same && same_pairing(pairing, numbers, said),
+        pairing,
+        next: next_of(numbers, said),
+    }
 }
 
 // The line that begins at a place, on the pairing that the lines before it left.
@@ -172,41 +223,27 @@ fn replay_line(p: Pairing, numbers: &[u32], at: usize) -> Replayed {
     let code = number_at(numbers, at);
     let said = end_of(numbers.len(), at, ids_given(numbers, at));
     let reply = reply_to(p, code, ids_at(numbers, at));
-    let pairing = reply.pairing;
-    if NUMBERS < said {
-        return Replayed {
-            code,
-            panicked: false,
-            agrees: false,
-            pairing,
-            next: said,
-        };
-    }
-    let panicked = number_at(numbers, said);
-    let value = number_at(numbers, said + 1);
-    let order = number_at(numbers, said + 2);
-    let same = same_answer(code, reply.told.no, reply.value, panicked, value);
-    Replayed {
-        code,
-        panicked: panicked != 0,
-        agrees: same && same_pairing(pairing, numbers, said + 2),
-        pairing,
-        next: said + 3 + order as usize,
-    }
+    compared(code, reply, numbers, said)
 }
 
 // A line counted; the answer is 1 if it differs and 0 if it agrees.
-fn tally(line: Replayed, answered: &mut [u64; CODES], refused: &mut [u64; CODES]) -> u64
+fn tally(
+    code: u32,
+    panicked: bool,
+    agrees: bool,
+    answered: &mut [u64; CODES],
+    refused: &mut [u64; CODES],
+) -> u64
     ensures { λ r. ⌜ r ≤ 1 ⌝ }
 {
-    if !line.agrees {
+    if !agrees {
         return 1;
     }
-    if line.panicked {
-        count(refused, line.code);
+    if panicked {
+        count(refused, code);
         return 0;
     }
-    count(answered, line.code);
+    count(answered, code);
     0
 }
 
@@ -223,18 +260,26 @@ fn replay(numbers: &[u32], answered: &mut [u64; CODES], refused: &mut [u64; CODE
         let line = replay_line(pairing, numbers, at);
         pairing = line.pairing;
         at = line.next;
-        differences += tally(line, answered, refused);
+        differences += tally(line.code, line.panicked, line.agrees, answered, refused);
         lines += 1;
     }
     Counted { lines, differences }
 }
 
+// The count of an operation.
+fn count_at(t: &[u64; CODES], code: usize) -> u64 {
+    if code < CODES {
+        return t[code];
+    }
+    0
+}
+
 // Writes how often an operation was answered, and how often refused.
-fn line(name: &[u8], answered: u64, refused: u64) {
+fn line(name: &[u8], answered: &[u64; CODES], refused: &[u64; CODES], code: usize) {
     write(name);
-    number(answered);
+    number(count_at(answered, code));
     write(b" answered,");
-    number(refused);
+    number(count_at(refused, code));
     write(b" refused\n");
 }
 
@@ -254,19 +299,58 @@ fn front(numbers: &[u32], count: usize) -> &[u32] {
     &numbers[z..count]
 }
 
-// Replays the first numbers of the table, and writes what was counted.
-fn report(numbers: &[u32; NUMBERS], count: usize) {
+// Writes the counts of the operations that ask.
+fn report_asked(a: &[u64; CODES], r: &[u64; CODES]) {
+    line(b"order:", a, r, 0);
+    line(b"has_node:", a, r, 1);
+    line(b"pair:", a, r, 2);
+}
+
+// Writes the counts of the others.
+fn report_others(a: &[u64; CODES], r: &[u64; CODES]) {
+    line(b"edges:", a, r, 3);
+    line(b"augment:", a, r, 4);
+    line(b"mate:", a, r, 5);
+}
+
+// Replays a table, and writes what was counted.
+fn report(numbers: &[u32]) {
     let mut a = [0u64; CODES];
     let mut r = [0u64; CODES];
-    let counted = replay(front(numbers, count), &mut a, &mut r);
-    line(b"order:", a[0], r[0]);
-    line(b"has_node:", a[1], r[1]);
-    line(b"pair:", a[2], r[2]);
-    line(b"edges:", a[3], r[3]);
-    line(b"augment:", a[4], r[4]);
-    line(b"mate:", a[5], r[5]);
+    let counted = replay(numbers, &mut a, &mut r);
+    report_asked(&a, &r);
+    report_others(&a, &r);
     total(b"operations:", counted.lines);
     total(b"differences:", counted.differences);
+}
+
+// Replays the first numbers of the table.
+fn report_front(numbers: &[u32; NUMBERS], count: usize) {
+    report(front(numbers, count));
+}
+
+// Replays a text.
+fn replay_text(text: &[u8]) {
+    let mut numbers = [0u32; NUMBERS];
+    let count = read_numbers(text, &mut numbers);
+    report_front(&numbers, count);
+}
+
+// Replays the first bytes of the buffer, which were read.
+fn replay_bytes(text: &[u8; BYTES], n: usize) {
+    if BYTES <= n {
+        write(b"the sample is too long\n");
+        return;
+    }
+    replay_text(samples::front(text, n));
+}
+
+// Replays what a file holds.
+fn replay_file(fd: i32) {
+    let mut text = [0u8; BYTES];
+    let n = io::read_full(fd, &mut text);
+    libc::close(fd);
+    replay_bytes(&text, n);
 }
 
 fn main() {
@@ -276,14 +360,5 @@ fn main() {
         os::fail(path);
         return;
     }
-    let mut text = [0u8; BYTES];
-    let n = io::read_full(fd, &mut text);
-    libc::close(fd);
-    if BYTES <= n {
-        write(b"the sample is too long\n");
-        return;
-    }
-    let mut numbers = [0u32; NUMBERS];
-    let count = read_numbers(&text[..n], &mut numbers);
-    report(&numbers, count);
+    replay_file(fd);
 }

@@ -7,7 +7,7 @@ use native.Mathlib.Nat.{not-suc-le-zero}
 use native.Mathlib.Omega.{arith}
 use lib.Dec.{eqb, ltb}
 use lib.ListN.{length, getD}
-use borrow.Author.Tests.{eqb-true, eq-eqb, ltb-true, ltb-false, lt-ltb, le-ltb}
+use borrow.Author.Tests.{eqb-true, eq-eqb, ltb-true, ltb-false, lt-ltb}
 use Rattle.limits.specs.Limits.{none}
 use Rattle.graphs.specs.Count.{least}
 use Rattle.graphs.specs.Graph.{has, joined}
@@ -15,8 +15,7 @@ use Rattle.graphs.proofs.Count.{cases, clash, same-test, least-passes, least-fo
 use Rattle.graphs.proofs.Graph.{has-head, has-tail, has-cases}
 use Rattle.words.specs.Words.{word, numbers}
 use Rattle.rows.specs.Sheet.{order, start, slot, part, stretch, graphOf}
-use Rattle.rows.specs.Lookup.{place, neighborsOf, edgeOf}
-use Rattle.rows.specs.declared.Edge.the-variants as edge
+use Rattle.rows.specs.Lookup.{place, neighborsOf}
 use Rattle.rows.specs.declared.Stretch.{Stretch}
 use Rattle.rows.specs.declared.Stretch.the-variants as at
 use Rattle.words.proofs.Bytes.{numbers-length, numbers-at}
@@ -70,12 +69,3 @@ place-has row x = same-test (ltb (place row x) (length row)) (has row x)
 -- whether w stands in the row of v, by its first place in the stretch
 pub place-joined : (s row : List ℕ) (v w p : ℕ) → row ≡ stretch s v → p ≡ place (numbers row) w → joined (graphOf s) v w ≡ ltb p (length row / 4)
 place-joined s row v w p er ep = rw (ep, ← numbers-length row, place-has (numbers row) w, er)
-
-module _ (s row : List ℕ) (n v w p : ℕ) (en : n ≡ order s) (lv : v < n) (lw : w < n) (er : row ≡ stretch s v) (ep : p ≡ place (numbers row) w) where
-  pub edge-there : p < length row / 4 → edge.Joined ≡ edgeOf (graphOf s) v w
-  unfolding edgeOf
-  edge-there h = rw (← en, lt-ltb v n lv, lt-ltb w n lw, place-joined s row v w p er ep, lt-ltb _ _ h)
-
-  pub edge-not : length row / 4 ≤ p → edge.Apart ≡ edgeOf (graphOf s) v w
-  unfolding edgeOf
-  edge-not h = rw (← en, lt-ltb v n lv, lt-ltb w n lw, place-joined s row v w p er ep, le-ltb _ _ h)

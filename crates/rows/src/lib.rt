@@ -1,22 +1,15 @@
-// A row as the stretch of the sheet that holds it, and the lookups of default_graph.rs: `order`, `neighbors` and
-// `has_edge`. They take any bytes; `specs/Sheet.antt` has the format, and `proofs/Slots.antt` shows where each entry of
-// a sheet with right contents stands.
+// A row as the stretch of the sheet that holds it, and the lookups of default_graph.rs: `order` and `neighbors`; the
+// third, `has_edge`, is the crate `edges`. They take any bytes; `specs/Sheet.antt` has the format, and
+// `proofs/Slots.antt` shows where each entry of a sheet with right contents stands.
 use words::word_at;
 ghost use mathlib.Core.Path.{_≡_};
 ghost use Rattle.words.specs.Words.{numbers};
-ghost use Rattle.rows.specs.Sheet.{order, part, stretch, graphOf};
-ghost use Rattle.rows.specs.Lookup.{place, neighborsOf, edgeOf};
+ghost use Rattle.rows.specs.Sheet.{order, part, stretch};
+ghost use Rattle.rows.specs.Lookup.{place, neighborsOf};
 
 // Where the neighbours of an id stand in the sheet, from a byte on and before another, or that there is no such id.
 pub enum Stretch {
     Row { from: usize, to: usize },
-    UnknownId { id: u32 },
-}
-
-// Whether two routes are joined, or the first id that is none.
-pub enum Edge {
-    Joined,
-    Apart,
     UnknownId { id: u32 },
 }
 
@@ -83,22 +76,4 @@ pub fn place(row: &[u8], x: u32) -> usize
         i += 1;
     }
     m
-}
-
-// Whether the second id is a neighbour of the first.
-pub fn has_edge(s: &[u8], v: u32, w: u32) -> Edge
-    ensures { λ r. ⌜ r ≡ edgeOf (graphOf (now (s .entry))) v w ⌝ }
-{
-    let n = word_at(s, 0);
-    if n <= v {
-        return Edge::UnknownId { id: v };
-    }
-    if n <= w {
-        return Edge::UnknownId { id: w };
-    }
-    let r = row(s, v);
-    if place(r, w) < r.len() / 4 {
-        return Edge::Joined;
-    }
-    Edge::Apart
 }

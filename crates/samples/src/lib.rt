@@ -1,8 +1,11 @@
 // What the programs of the tests have in common beside printing: sheets that they write into memory, and the numbers of
 // recorded texts and of answers that they read. Nothing is asked of a caller: what finds no room is not put.
+use limits::NONE;
 use limits::ROUTES;
 use words::put_word;
 use words::word_at;
+ghost use Prim.Native.Nat.{_≤_, _<_};
+ghost use lib.ListN.{length};
 
 // Room for the largest sheet that is accepted.
 pub const LARGE: usize = 8 + 4 * ROUTES * ROUTES;
@@ -118,10 +121,102 @@ pub fn with_digit(x: u32, byte: u8) -> u32 {
     if byte < 48 {
         return x;
     }
-    if 400000000 <= x {
+    let y = 10 * (x as u64) + (byte - 48) as u64;
+    if (NONE as u64) < y {
         return x;
     }
-    10 * x + (byte - 48) as u32
+    y as u32
+}
+
+// A number, and the place behind it.
+pub struct Read {
+    pub x: u32,
+    pub next: usize,
+}
+
+// The place of the first digit from a place on, or the end.
+pub fn digit_from(s: &[u8], at: usize) -> usize {
+    let mut i = at;
+    while i < s.len() {
+        if is_digit(s[i]) {
+            return i;
+        }
+        i += 1;
+    }
+    i
+}
+
+// The number whose digits begin at a place.
+fn digits(s: &[u8], at: usize) -> Read {
+    let mut x = 0;
+    let mut i = at;
+    while i < s.len() {
+        if !is_digit(s[i]) {
+            return Read { x, next: i };
+        }
+        x = with_digit(x, s[i]);
+        i += 1;
+    }
+    Read { x, next: i }
+}
+
+// The first number from a place on; none where there is none.
+pub fn number_from(s: &[u8], at: usize) -> Read {
+    let i = digit_from(s, at);
+    if s.len() <= i {
+        return Read { x: NONE, next: i };
+    }
+    digits(s, i)
+}
+
+// The place of the next end of a line, or the end of the text.
+pub fn line_end(text: &[u8], at: usize) -> usize
+    requires { ⌜ at < length (now text) ⌝ }
+    ensures { λ r. ⌜ (at ≤ r) × (r ≤ length (now (text .entry))) ⌝ }
+{
+    let mut i = at;
+    while i < text.len() {
+        if text[i] == 10 {
+            return i;
+        }
+        i += 1;
+    }
+    i
+}
+
+// The place of the first such byte of a line, or the end.
+pub fn place_of(line: &[u8], byte: u8) -> usize {
+    let mut i = 0;
+    while i < line.len() {
+        if line[i] == byte {
+            return i;
+        }
+        i += 1;
+    }
+    i
+}
+
+// The numbers of a line from a place on, put as the first words of a sheet: forty at most.
+pub fn put_numbers(s: &mut [u8; LARGE], line: &[u8], at: usize) {
+    let mut next = digit_from(line, at);
+    let mut k = 0;
+    while k < 40 {
+        if line.len() <= next {
+            return;
+        }
+        let r = digits(line, next);
+        put_word(s, k, r.x);
+        next = digit_from(line, r.next);
+        k += 1;
+    }
+}
+
+// Whether a line holds something: it is not empty, and no comment, which begins with #.
+pub fn is_told(line: &[u8]) -> bool {
+    if line.len() == 0 {
+        return false;
+    }
+    line[0] != 35
 }
 
 // One more of a kind, where the table has such a kind.

@@ -2,9 +2,9 @@
 // the sheet. The others take tables.
 use limits::NONE;
 use limits::ROUTES;
-use look::Marks;
 use look::look;
 use tables::GROUPS;
+use touch::Marks;
 use words::word_at;
 ghost use mathlib.Core.Path.{_≡_};
 ghost use mathlib.Core.Bool.{false};

@@ -1,3 +1,1 @@
-pub mod Ring
-pub mod Forest
 pub mod Search

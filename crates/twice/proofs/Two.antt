@@ -5,7 +5,7 @@ use mathlib.Core.List.{List}
 use lib.ListN.{length}
 use Rattle.improve.specs.Choice.{pairingAfter, witnessAfter, addedOf}
 use Rattle.twice.proofs.Twice.{verdict-twice, pairing-twice, witness-twice, finished-twice, size-twice, sessions-twice, added-twice}
-use Rattle.wisharek.specs.Calls.{ImproveCall}
+use Rattle.improving.specs.ImproveCall.{ImproveCall}
 use Rattle.twice.specs.Two.{TwoCalls}
 
 module _ (s p p₁ p₂ w w₁ w₂ : List ℕ) (a b : ℕ) (x x′ y y′ : List ℕ) (r₁ r₂ : ℕ) where

@@ -4,7 +4,7 @@ use mathlib.Core.Path.{_≡_}
 use mathlib.Core.List.{List, [], _∷_}
 use Rattle.witness.specs.Verdict.{improveVerdict}
 use Rattle.improve.specs.Choice.{pairingAfter, witnessAfter, addedOf, sizeAfter, finishedOf, sessionsAfter}
-use Rattle.wisharek.specs.Calls.{Answered}
+use Rattle.checking.specs.Calls.{Answered}
 
 -- two calls in a row on the same pairing and witness, with the budgets a and b. They leave the bytes that one call with the budget a + b leaves; the second
 -- answers what that one answers, but for the pairs added; and those of both sum up to its

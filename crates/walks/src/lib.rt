@@ -1,6 +1,6 @@
-// The two walks of a ring. They go up from the ends of the edge that closes it, the deeper one first, until they meet; on
-// the way each group of the ring stores the next one and the edge to it, in the ring's direction. Each function takes the
-// tables that it touches, and its contract holds whatever the others are.
+// The steps of the two walks of a ring. They go up from the ends of the edge that closes it; on the way each group of the
+// ring stores the next one and the edge to it, in the ring's direction. Which walk goes, and until when, is in crate
+// `linked`. Each function takes the tables that it touches, and its contract holds whatever the others are.
 use limits::ROUTES;
 use tables::GROUPS;
 use tables::at;
@@ -14,7 +14,7 @@ ghost use Prim.Native.Nat.{ℕ};
 ghost use lib.Dec.{eqb};
 ghost use Rattle.limits.specs.Limits.{routes};
 ghost use Rattle.theory.specs.Search.Tables.{cell, Rings};
-ghost use Rattle.theory.specs.Search.Rings.{bridge, left, right, stride, linked};
+ghost use Rattle.theory.specs.Search.Rings.{bridge, left, right};
 ghost use Rattle.tables.specs.Shapes.{rings, way, tree};
 
 // Where the two walks of a ring have come to, and how many steps they have made.
@@ -32,7 +32,7 @@ pub fn met(top: &[u32; ROUTES], x: u32, y: u32) -> bool
 }
 
 // Before the first step: w's group stores v's as the next, and the edge (w, v).
-fn bridge(
+pub fn bridge(
     top: &[u32; ROUTES],
     next: &mut [u32; GROUPS],
     out: &mut [u32; GROUPS],
@@ -52,7 +52,7 @@ fn bridge(
 }
 
 // A step of the walk from x.
-fn left(
+pub fn left(
     mate: &[u32; ROUTES],
     parent: &[u32; ROUTES],
     top: &[u32; ROUTES],
@@ -88,7 +88,7 @@ fn left(
 
 // A step of the walk from y. The ring's direction is down here, so the parent's group stores the way to i, and i the way
 // to y's group.
-fn right(
+pub fn right(
     mate: &[u32; ROUTES],
     parent: &[u32; ROUTES],
     top: &[u32; ROUTES],
@@ -120,87 +120,4 @@ fn right(
         y: p,
         k: one_more(k),
     }
-}
-
-// A step of the deeper walk, unless the two have met.
-fn stride(
-    mate: &[u32; ROUTES],
-    parent: &[u32; ROUTES],
-    top: &[u32; ROUTES],
-    base: &[u32; GROUPS],
-    rank: &[u32; GROUPS],
-    up: &mut [u32; GROUPS],
-    next: &mut [u32; GROUPS],
-    out: &mut [u32; GROUPS],
-    into: &mut [u32; GROUPS],
-    ids: u32,
-    x: u32,
-    y: u32,
-    k: u32,
-) -> Ends
-    ensures { λ r. ⌜ ((q : Rings)
-        → way (r .x) (r .y) (r .k) (rings (now (up .exit)) (now (next .exit)) (now (out .exit)) (now (into .exit)))
-        ≡ stride routes (tree (now (mate .entry)) (now (parent .entry)) (now (top .entry)) (now (base .entry)) (now (rank .entry)) q ids) (way x y k (rings (now (up .entry)) (now (next .entry)) (now (out .entry)) (now (into .entry))))) ⌝ }
-{
-    let g = at(top, x);
-    let h = at(top, y);
-    if g == h {
-        return Ends { x, y, k };
-    }
-    let i = at_group(rank, g);
-    let j = at_group(rank, h);
-    if i < j {
-        return right(mate, parent, top, base, up, next, out, into, ids, x, y, k);
-    }
-    left(mate, parent, top, base, up, next, out, into, ids, x, y, k)
-}
-
-// Both walks, until they have met. There are fewer steps than groups, so the count never ends them.
-pub fn linked(
-    mate: &[u32; ROUTES],
-    parent: &[u32; ROUTES],
-    top: &[u32; ROUTES],
-    base: &[u32; GROUPS],
-    rank: &[u32; GROUPS],
-    up: &mut [u32; GROUPS],
-    next: &mut [u32; GROUPS],
-    out: &mut [u32; GROUPS],
-    into: &mut [u32; GROUPS],
-    ids: u32,
-    v: u32,
-    w: u32,
-) -> Ends
-    ensures { λ r. ⌜ way (r .x) (r .y) (r .k) (rings (now (up .exit)) (now (next .exit)) (now (out .exit)) (now (into .exit)))
-        ≡ linked routes (tree (now (mate .entry)) (now (parent .entry)) (now (top .entry)) (now (base .entry)) (now (rank .entry)) (rings (now (up .entry)) (now (next .entry)) (now (out .entry)) (now (into .entry))) ids) v w ⌝ }
-{
-    bridge(top, next, out, into, v, w);
-    let mut x = v;
-    let mut y = w;
-    let mut k = 0;
-    let mut t = 0;
-    while t < GROUPS {
-        if met(top, x, y) {
-            return Ends { x, y, k };
-        }
-        let e = stride(
-            mate,
-            parent,
-            top,
-            base,
-            rank,
-            up,
-            next,
-            out,
-            into,
-            ids,
-            x,
-            y,
-            k,
-        );
-        x = e.x;
-        y = e.y;
-        k = e.k;
-        t += 1;
-    }
-    Ends { x, y, k }
 }

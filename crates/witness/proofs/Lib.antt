@@ -1,3 +1,3 @@
--- For the crates above: Checker (what an accepted pairing is). Verdicts is for the proofs of this crate's functions alone.
-mod Verdicts
+-- For the crates above: Checker (what an accepted pairing is) and Verdicts (the checks in turn).
+pub mod Verdicts
 pub mod Checker

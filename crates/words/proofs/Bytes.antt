@@ -15,7 +15,7 @@ use Rattle.limits.specs.Limits.{none}
 use Rattle.graphs.specs.Parts.{run}
 use Rattle.graphs.proofs.Count.{cases}
 use Rattle.graphs.proofs.Parts.{run-length, run-at}
-use Rattle.words.specs.Words.{four, word, numbers, putWord, putLong, bytes4, bytes8, bytesTo, longsOf, over}
+use Rattle.words.specs.Words.{four, word, numbers, putWord, bytes4, bytesTo, over}
 
 -- ---- a number that is there, and one that is not
 
@@ -148,12 +148,12 @@ put-other s k x j ne =
 
 -- ---- numbers put one after the other
 
--- bytes stored from the place on where q begins
-sets-after : (p q bs : List ℕ) (n : ℕ) → length p ≡ n → length bs ≤ length q → sets (p ++ q) n bs ≡ (p ++ bs) ++ drop (length bs) q
+-- bytes stored from the place on where q begins; the crate `longs` stores eight
+pub sets-after : (p q bs : List ℕ) (n : ℕ) → length p ≡ n → length bs ≤ length q → sets (p ++ q) n bs ≡ (p ++ bs) ++ drop (length bs) q
 sets-after p q bs n e h =
     rw (← e, sets-eq bs (p ++ q) (length p) (omega (arith, length-append p q)), take-append-seam p q, drop-append-add p q (length bs), append-assoc p bs (drop (length bs) q))
 
--- after the numbers that were put, the next: of four bytes, and of eight
+-- after the numbers that were put, the next
 pub put-next : (p q : List ℕ) (k x : ℕ) → length p ≡ 4 * k → 4 ≤ length q → putWord (p ++ q) k x ≡ (p ++ bytes4 x) ++ drop 4 q
 unfolding putWord
 put-next p q k x e h =
@@ -161,15 +161,6 @@ put-next p q k x e h =
     (sets-after p q (bytes4 x) (4 * k) e h)
   where
     place : (i : ℕ) → 4 * k + suc i ≡ suc (4 * k + i)
-    place i = omega arith
-
-pub put-next-long : (p q : List ℕ) (k x : ℕ) → length p ≡ 8 * k → 8 ≤ length q → putLong (p ++ q) k x ≡ (p ++ bytes8 x) ++ drop 8 q
-unfolding putLong
-put-next-long p q k x e h =
-    rw (lt-ltb k (length (p ++ q) / 8) (omega (arith, length-append p q)), place 6, place 5, place 4, place 3, place 2, place 1, add-one (8 * k))
-    (sets-after p q (bytes8 x) (8 * k) e h)
-  where
-    place : (i : ℕ) → 8 * k + suc i ≡ suc (8 * k + i)
     place i = omega arith
 
 -- ---- a buffer filled number by number
@@ -233,38 +224,3 @@ cells-again t l₀ l k x h h₀ e q =
 
 pub cells-end : (t l₀ l : List ℕ) (k : ℕ) → length t ≡ length l₀ → length l₀ ≤ k → l ≡ take k t ++ drop k l₀ → l ≡ t
 cells-end t l₀ l k e h p = p ∙ rw (drop-of-length-le l₀ {i = k} h, take-all k t (omega arith), append-nil)
-
--- long numbers put at 0, 1, .. fill a buffer of their length
-putAll : List ℕ → ℕ → List ℕ → List ℕ
-putAll s k [] = s
-putAll s k (x ∷ xs) = putAll (putLong s k x) (suc k) xs
-
-put-all : (xs p q : List ℕ) (k : ℕ) → length p ≡ 8 * k → length q ≡ 8 * length xs → putAll (p ++ q) k xs ≡ p ++ longsOf xs
-unfolding putAll longsOf
-put-all [] p q k e h = rw (no-more q h)
-  where
-    no-more : (q : List ℕ) → length q ≡ 8 * 0 → q ≡ []
-    no-more [] h = refl
-    no-more (x ∷ xs) h = absurd (omega arith)
-put-all (x ∷ xs) p q k e h =
-    rw (put-next-long p q k x e (omega arith))
-    (put-all xs (p ++ bytes8 x) (drop 8 q) (suc k) (length-append p (bytes8 x) ∙ omega arith) (length-drop 8 q ∙ omega arith)
-    ∙ append-assoc p (bytes8 x) (longsOf xs))
-
-pub put-three : (s : List ℕ) (a b c : ℕ) → length s ≡ 24 → putLong (putLong (putLong s 0 a) 1 b) 2 c ≡ longsOf (a ∷ b ∷ c ∷ [])
-unfolding putAll
-put-three s a b c e = put-all (a ∷ b ∷ c ∷ []) [] s 0 refl e
-
-pub put-four : (s : List ℕ) (a b c d : ℕ) → length s ≡ 32 → putLong (putLong (putLong (putLong s 0 a) 1 b) 2 c) 3 d ≡ longsOf (a ∷ b ∷ c ∷ d ∷ [])
-unfolding putAll
-put-four s a b c d e = put-all (a ∷ b ∷ c ∷ d ∷ []) [] s 0 refl e
-
-pub put-five : (s : List ℕ) (a b c d f : ℕ) → length s ≡ 40
-    → putLong (putLong (putLong (putLong (putLong s 0 a) 1 b) 2 c) 3 d) 4 f ≡ longsOf (a ∷ b ∷ c ∷ d ∷ f ∷ [])
-unfolding putAll
-put-five s a b c d f e = put-all (a ∷ b ∷ c ∷ d ∷ f ∷ []) [] s 0 refl e
-
-pub put-seven : (s : List ℕ) (a b c d f g h : ℕ) → length s ≡ 56
-    → putLong (putLong (putLong (putLong (putLong (putLong (putLong s 0 a) 1 b) 2 c) 3 d) 4 f) 5 g) 6 h ≡ longsOf (a ∷ b ∷ c ∷ d ∷ f ∷ g ∷ h ∷ [])
-unfolding putAll
-put-seven s a b c d f g h e = put-all (a ∷ b ∷ c ∷ d ∷ f ∷ g ∷ h ∷ []) [] s 0 refl e

@@ -26,45 +26,14 @@ putWord s k x =
     (set (set (set (set s (4 * k) (x % 256)) (4 * k + 1) (x / 256 % 256)) (4 * k + 2) (x / 256 / 256 % 256)) (4 * k + 3) (x / 256 / 256 / 256 % 256))
     s
 
--- a number as four bytes, and as eight
+-- a number as four bytes
 abbrev pub bytes4 : ℕ → List ℕ
 bytes4 x = x % 256 ∷ x / 256 % 256 ∷ x / 256 / 256 % 256 ∷ x / 256 / 256 / 256 % 256 ∷ []
-
-abbrev pub bytes8 : ℕ → List ℕ
-bytes8 x =
-    x % 256
-    ∷ x / 256 % 256
-    ∷ x / 256 / 256 % 256
-    ∷ x / 256 / 256 / 256 % 256
-    ∷ x / 256 / 256 / 256 / 256 % 256
-    ∷ x / 256 / 256 / 256 / 256 / 256 % 256
-    ∷ x / 256 / 256 / 256 / 256 / 256 / 256 % 256
-    ∷ x / 256 / 256 / 256 / 256 / 256 / 256 / 256 % 256
-    ∷ []
 
 -- f 0, f 1, .., f (k - 1) as bytes, four each
 unfoldable pub bytesTo : (ℕ → ℕ) → ℕ → List ℕ
 bytesTo f zero = []
 bytesTo f (suc k) = bytesTo f k ++ bytes4 (f k)
-
--- a list of numbers as bytes, eight each
-unfoldable pub longsOf : List ℕ → List ℕ
-longsOf [] = []
-longsOf (x ∷ xs) = bytes8 x ++ longsOf xs
-
--- long number k of the bytes s, of eight bytes, set to x; where its eight bytes are not all there, nothing
-unfoldable pub putLong : List ℕ → ℕ → ℕ → List ℕ
-putLong s k x =
-    cond (ltb k (length s / 8))
-    (set (set (set (set (set (set (set (set s (8 * k) (x % 256))
-    (8 * k + 1) (x / 256 % 256))
-    (8 * k + 2) (x / 256 / 256 % 256))
-    (8 * k + 3) (x / 256 / 256 / 256 % 256))
-    (8 * k + 4) (x / 256 / 256 / 256 / 256 % 256))
-    (8 * k + 5) (x / 256 / 256 / 256 / 256 / 256 % 256))
-    (8 * k + 6) (x / 256 / 256 / 256 / 256 / 256 / 256 % 256))
-    (8 * k + 7) (x / 256 / 256 / 256 / 256 / 256 / 256 / 256 % 256))
-    s
 
 -- a step for each number of a list, in order, with its place: what a loop along a row comes to. The first stands at place i
 module _ {A : Type 0} where

@@ -2,6 +2,7 @@
 use crate::graphs::{every_graph, every_pairing, general, most_pairs, nothing, rising, some_pairs, two_sides};
 use crate::reading::Read;
 use crate::runs::Beside;
+use crate::seen::Seen;
 use crate::{ours, text, Rows};
 use sheets::random::Random;
 use std::thread;
@@ -93,24 +94,40 @@ impl Plan {
         })
     }
 
+    /// In two shares, beside each other.
     fn general(&self) -> Result<String, String> {
         let what = format!("general graphs, up to {:?} routes, seed {}", self.most, self.seed);
-        let mut random = Random::new(self.seed);
-        beside(&what, |beside| {
-            for most in sizes(self.graphs, self.most) {
-                let mut rows = general(&mut random, most);
-                if random.below(2) == 0 {
-                    rows = rising(rows);
-                }
-                let start = some_pairs(&mut random, &rows);
-                match random.below(4) {
-                    0 => beside.compare_twice(&rows, &start)?,
-                    _ => beside.compare(&rows, &start)?,
-                }
-                beside.compare(&rows, &nothing(&rows))?;
+        let mut seen = Seen::default();
+        thread::scope(|scope| {
+            for share in [0, 1].map(|share| scope.spawn(move || self.share(share))) {
+                seen.add(share.join().expect("a share of the comparison")?);
             }
-            Ok(())
-        })
+            Ok::<(), String>(())
+        })?;
+        Ok(format!("{what}: {seen}  no difference\n"))
+    }
+
+    /// Every second general graph. Each share draws all of them, so that the two together are one run from the seed.
+    fn share(&self, share: usize) -> Result<Seen, String> {
+        let mut random = Random::new(self.seed);
+        let mut beside = Beside::default();
+        for (k, most) in sizes(self.graphs, self.most).enumerate() {
+            let mut rows = general(&mut random, most);
+            if random.below(2) == 0 {
+                rows = rising(rows);
+            }
+            let start = some_pairs(&mut random, &rows);
+            let again = random.below(4) == 0;
+            if k % 2 != share {
+                continue;
+            }
+            match again {
+                true => beside.compare_twice(&rows, &start)?,
+                false => beside.compare(&rows, &start)?,
+            }
+            beside.compare(&rows, &nothing(&rows))?;
+        }
+        Ok(beside.seen)
     }
 }
 

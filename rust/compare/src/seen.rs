@@ -53,6 +53,27 @@ impl Seen {
             None => drop(self.kinds.insert(kind.to_string(), Kind { times: 1, smallest: input, said })),
         }
     }
+
+    /// What another share of the runs has counted too.
+    pub fn add(&mut self, other: Seen) {
+        self.runs += other.runs;
+        self.finished += other.finished;
+        self.added += other.added;
+        self.exact += other.exact;
+        self.twice += other.twice;
+        for (name, kind) in other.kinds {
+            match self.kinds.get_mut(&name) {
+                Some(kept) => {
+                    let times = kept.times + kind.times;
+                    if kind.smallest < kept.smallest {
+                        *kept = kind;
+                    }
+                    kept.times = times;
+                }
+                None => drop(self.kinds.insert(name, kind)),
+            }
+        }
+    }
 }
 
 impl fmt::Display for Seen {

@@ -9,10 +9,13 @@ use pairings::operation::{numbers, Operation, IDS, NAMES, NONE};
 use pairings::plain;
 use pairings::random::{damage, once_in, one_of, operation};
 use sheets::random::Random;
+use std::thread;
 use std::time::Instant;
 
-const SEED: u64 = 512;
-const ROUNDS: usize = 1000;
+/// Each by itself, beside the others.
+const SEEDS: [u64; 2] = [512, 513];
+/// For each seed.
+const ROUNDS: usize = 500;
 const OPERATIONS: usize = 1000;
 
 /// Both pairings, the operations that led to them from fresh ones, and what the proved ones said.
@@ -183,6 +186,23 @@ impl Seen {
         }
     }
 
+    /// What another run has counted too; of each kind of refusal the first is kept.
+    fn add(&mut self, other: Seen) {
+        for code in 0..NAMES.len() {
+            self.answered[code] += other.answered[code];
+            for (ours, theirs) in self.refused[code].iter_mut().zip(other.refused[code]) {
+                *ours += theirs;
+            }
+        }
+        for kind in other.first {
+            if !self.first.iter().any(|first| (first.0, first.1) == (kind.0, kind.1)) {
+                self.first.push(kind);
+            }
+        }
+        self.repeated += other.repeated;
+        self.damaged += other.damaged;
+    }
+
     fn print(&mut self) {
         for (code, name) in NAMES.iter().enumerate() {
             let by_number: Vec<String> = (10..17)
@@ -202,10 +222,9 @@ impl Seen {
     }
 }
 
-#[test]
-fn proved_pairing_differs_from_gammas() {
-    let begun = Instant::now();
-    let mut random = Random::new(SEED);
+/// All rounds from one seed.
+fn rounds(seed: u64) -> Seen {
+    let mut random = Random::new(seed);
     let mut seen = Seen::default();
     for _ in 0..ROUNDS {
         let mut both = Both::new();
@@ -221,9 +240,23 @@ fn proved_pairing_differs_from_gammas() {
         }
         both.once_more();
     }
+    seen
+}
+
+#[test]
+fn proved_pairing_differs_from_gammas() {
+    let begun = Instant::now();
+    let mut seen = Seen::default();
+    thread::scope(|scope| {
+        let runs = SEEDS.map(|seed| scope.spawn(move || rounds(seed)));
+        for run in runs {
+            seen.add(run.join().expect("a difference, which the run has said"));
+        }
+    });
     let total: u64 = seen.answered.iter().sum::<u64>() + seen.refused.iter().flatten().sum::<u64>();
+    assert_eq!(total, (SEEDS.len() * ROUNDS * OPERATIONS) as u64);
     println!(
-        "beside gamma: {total} operations from seed {SEED}, compared after each, no difference, {:.1?}",
+        "beside gamma: {total} operations from seeds {SEEDS:?}, compared after each, no difference, {:.1?}",
         begun.elapsed()
     );
     seen.print();

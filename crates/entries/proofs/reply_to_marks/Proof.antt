@@ -3,7 +3,8 @@ use Prim.Native.Nat.{_≤_, _-_, _/_}
 use mathlib.Core.Path.{_≡_, refl, sym, _∙_}
 use Rattle.rows.specs.Sheet.{order, graphOf}
 use Rattle.replies.specs.Reply.{firstOf}
-use Rattle.entries.specs.Quick.{quickRow, lastPlaces, unkept}
+use Rattle.places.specs.Places.{lastPlaces, unkept}
+use Rattle.entries.specs.Quick.{quickRow}
 use Rattle.replies.specs.declared.Reply.the-variants.{Accepted}
 use Rattle.graphs.specs.Graph.{Graph}
 use Rattle.replies.proofs.Firsts.{first-none}

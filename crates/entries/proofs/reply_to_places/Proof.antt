@@ -5,7 +5,7 @@ use lib.ListN.{length, getD}
 use Rattle.limits.specs.Limits.{none}
 use Rattle.words.specs.Words.{numbers}
 use Rattle.replies.specs.Reply.{firstOf}
-use Rattle.entries.specs.Quick.{quickEntry}
+use Rattle.one_entry.specs.OneEntry.{quickEntry}
 use Rattle.replies.specs.declared.Reply.the-variants.{Accepted}
 use Rattle.replies.proofs.Firsts.{first-none}
 use Rattle.entries.proofs.Quick.{places-at, places-past, places-end}

@@ -2,7 +2,8 @@
 use mathlib.Core.Path.{ap, _∙_}
 use mathlib.Core.List.{List}
 use Prim.Native.Nat.{ℕ}
-use Rattle.entries.specs.Quick.{quickRow, unkept}
+use Rattle.places.specs.Places.{unkept}
+use Rattle.entries.specs.Quick.{quickRow}
 use borrow.Author.Needs.{needs}
 use Rattle.entries.proofs.reply_to_row.Statement.{statement}
 use Rattle.entries.proofs.reply_to_row.Tie as tie

@@ -1,4 +1,5 @@
 -- `run_queue` meets its contract. The invariant: the tables are what the first k rows of the queue have made of them, and no edge is found. Assumes nothing.
+-- The tables at entry and in the loop are written out where a blank would do: antt fills in a blank with long terms, which take far longer to check.
 use Prim.Native.Nat.{_-_, _≤_}
 use mathlib.Core.Path.{_≡_, refl}
 use mathlib.Core.Bool.{false}
@@ -29,9 +30,10 @@ returns c =
 returns-2 : tie.Need-returns-2 Inv-loop μ-loop
 returns-2 c =
     let l = c .before .before .before .before .before .before .before .before .before .before .before .before .before .before .before .before .before .before .before .loop in
-    let b = c .before .before .before .before .before .before .before .before .before .before .before .before .before .before .before .before .before .before .before .before .before .args .s .now in
-    run-hit (graphOf b) _ _ (l .k) _ (l .inv .0) (l .inv .1) (c .before .before .before .before .before .before .before .before .before .before .before .before .before .before .before .before .before .before .loop-test .taken) (c .before .before .before .before .before .before .before .before .before .before .before .before .before .before .before .before .before .if1 .left) _
-    (c .before .before .before .before .before .before .before .before .before .before .before .before .before .before .before .at .ensures) _ (of-row b _ _ _ _ (c .before .before .before .before .before .before .before .before .before .before .before .before .before .before .row .ensures) (c .before .scan-row .ensures)) (c .if2 .taken)
+    let a = c .before .before .before .before .before .before .before .before .before .before .before .before .before .before .before .before .before .before .before .before .before .args in
+    let b = a .s .now in
+    run-hit (graphOf b) (tables (a .n) (a .mate .now) (a .parent .now) (a .top .now) (a .root .now) (a .base .now) (a .rank .now) (a .half .now) (line (a .label .now) (a .queue .now) (a .tail)) (rings (a .up .now) (a .next .now) (a .out .now) (a .into .now)) (a .ids) false none none) (a .n) (l .k) (tables (a .n) (a .mate .now) (l .parent) (l .top) (l .root) (l .base) (l .rank) (l .half) (line (l .label) (l .queue) (l .t)) (rings (l .up) (l .next) (l .out) (l .into)) (l .d) false none none) (l .inv .0) (l .inv .1) (c .before .before .before .before .before .before .before .before .before .before .before .before .before .before .before .before .before .before .loop-test .taken) (c .before .before .before .before .before .before .before .before .before .before .before .before .before .before .before .before .before .if1 .left) _
+    (c .before .before .before .before .before .before .before .before .before .before .before .before .before .before .before .at .ensures) _ (of-row b _ (tables (a .n) (a .mate .now) (l .parent) (l .top) (l .root) (l .base) (l .rank) (l .half) (line (l .label) (l .queue) (l .t)) (rings (l .up) (l .next) (l .out) (l .into)) (l .d) false none none) _ _ (c .before .before .before .before .before .before .before .before .before .before .before .before .before .before .row .ensures) (c .before .scan-row .ensures)) (c .if2 .taken)
 
 add-k : tie.Need-add-k Inv-loop μ-loop
 add-k c =
@@ -44,10 +46,11 @@ loop-less c =
 loop-again : tie.Need-loop-again Inv-loop μ-loop
 loop-again c =
     let l = c .before .before .before .before .before .before .before .before .before .before .before .before .before .before .before .before .before .before .before .loop in
-    let b = c .before .before .before .before .before .before .before .before .before .before .before .before .before .before .before .before .before .before .before .before .before .args .s .now in (
+    let a = c .before .before .before .before .before .before .before .before .before .before .before .before .before .before .before .before .before .before .before .before .before .args in
+    let b = a .s .now in (
       omega (arith, c .before .before .before .before .before .before .before .before .before .before .before .before .before .before .before .before .before .before .loop-test .taken),
-      run-on (graphOf b) _ _ (l .k) _ (l .inv .0) (l .inv .1) (c .before .before .before .before .before .before .before .before .before .before .before .before .before .before .before .before .before .before .loop-test .taken) (c .before .before .before .before .before .before .before .before .before .before .before .before .before .before .before .before .before .if1 .left) _
-          (c .before .before .before .before .before .before .before .before .before .before .before .before .before .before .before .at .ensures) _ (of-row b _ _ _ _ (c .before .before .before .before .before .before .before .before .before .before .before .before .before .before .row .ensures) (c .before .scan-row .ensures)) refl refl (c .if2 .left),
+      run-on (graphOf b) (tables (a .n) (a .mate .now) (a .parent .now) (a .top .now) (a .root .now) (a .base .now) (a .rank .now) (a .half .now) (line (a .label .now) (a .queue .now) (a .tail)) (rings (a .up .now) (a .next .now) (a .out .now) (a .into .now)) (a .ids) false none none) (a .n) (l .k) (tables (a .n) (a .mate .now) (l .parent) (l .top) (l .root) (l .base) (l .rank) (l .half) (line (l .label) (l .queue) (l .t)) (rings (l .up) (l .next) (l .out) (l .into)) (l .d) false none none) (l .inv .0) (l .inv .1) (c .before .before .before .before .before .before .before .before .before .before .before .before .before .before .before .before .before .before .loop-test .taken) (c .before .before .before .before .before .before .before .before .before .before .before .before .before .before .before .before .before .if1 .left) _
+          (c .before .before .before .before .before .before .before .before .before .before .before .before .before .before .before .at .ensures) _ (of-row b _ (tables (a .n) (a .mate .now) (l .parent) (l .top) (l .root) (l .base) (l .rank) (l .half) (line (l .label) (l .queue) (l .t)) (rings (l .up) (l .next) (l .out) (l .into)) (l .d) false none none) _ _ (c .before .before .before .before .before .before .before .before .before .before .before .before .before .before .row .ensures) (c .before .scan-row .ensures)) refl refl (c .if2 .left),
     )
 
 returns-3 : tie.Need-returns-3 Inv-loop μ-loop

@@ -6,10 +6,10 @@ use Rattle.replay_pairing.proofs.same_pairs.Statement.{statement}
 use Rattle.replay_pairing.proofs.same_pairs.Tie as tie
 
 abbrev Inv-loop : tie.InvT-loop
-Inv-loop numbers at pairs lower upper k₀ k = k ≤ pairs
+Inv-loop numbers at lower upper pairs k₀ k = k ≤ pairs
 
 abbrev μ-loop : tie.MeasureT-loop
-μ-loop numbers at pairs lower upper k₀ k = pairs - k
+μ-loop numbers at lower upper pairs k₀ k = pairs - k
 
 pub same-pairs-spec : {M : Type 1} → statement M
 same-pairs-spec =
@@ -17,22 +17,13 @@ same-pairs-spec =
     (tie.spec
     Inv-loop
     μ-loop
-    (λ c κs. search needs)
-    (λ c. search needs)
     (λ c. search needs)
     (λ c. search needs)
     (λ c. search needs)
     (λ c. search needs)
     (λ c. search needs)
     (λ c κs. search needs)
-    (λ c. search needs)
     (λ c κs. search needs)
-    (λ c. search needs)
-    (λ c. search needs)
-    (λ c. search needs)
-    (λ c. search needs)
-    (λ c κs. search needs)
-    (λ c. search needs)
     (λ c κs. search needs)
     (λ c. search needs)
     (λ c. search needs)

@@ -12,7 +12,7 @@ use lib.Seq.{getD-set-same, getD-set-other, set-out}
 use borrow.Author.Tests.{ltb-false, lt-ltb, le-ltb}
 use Rattle.limits.specs.Limits.{none}
 use Rattle.theory.specs.Search.Tables.{groups, cell, store, oneMore}
-use Rattle.theory.proofs.Forest.Grow.{Set1, Set2}
+use Rattle.trees.proofs.Forest.Grow.{Set1, Set2}
 
 -- what holds of both branches holds of the one that is taken
 pub by-test : {A : Type 0} (P : A → Type 0) (b : Bool) (x y : A) → (b ≡ true → P x) → (b ≡ false → P y) → P (cond b x y)

@@ -13,15 +13,15 @@ use Rattle.graphs.specs.Graph.{Graph, Simple}
 use Rattle.theory.specs.Search.Tables.{groups, cell, store, oneMore, Line, Rings, Tables, turns}
 use Rattle.theory.specs.Search.Rings.{Way, bridge, left, right, stride, linked, around, shift, absorb, contract}
 use Rattle.graphs.proofs.Sets.{is, is-self, Is, same, other, is?, cnt, cnt-append}
-use Rattle.theory.proofs.Ring.Chain.{Chain, chain-rotate, Place, place}
-use Rattle.theory.proofs.Ring.Stored.{Step}
-use Rattle.theory.proofs.Forest.Grow.{Set1}
-use Rattle.theory.proofs.Forest.Applied.{partner}
-use Rattle.theory.proofs.Forest.Shape.{plain, inner-alone, outer-in}
-use Rattle.theory.proofs.Forest.Walk.{leg-head, leg-inner, leg-label}
-use Rattle.theory.proofs.Forest.Bow.{not-inner}
-use Rattle.theory.proofs.Forest.State.{State, state-bridge}
-use Rattle.theory.proofs.Forest.Link.{Tied, tied-start, tied-left, tied-right, not-met, x-out, y-out, x-inner, y-inner, absorbed, go-in}
+use Rattle.trees.proofs.Ring.Chain.{Chain, chain-rotate, Place, place}
+use Rattle.trees.proofs.Ring.Stored.{Step}
+use Rattle.trees.proofs.Forest.Grow.{Set1}
+use Rattle.trees.proofs.Forest.Applied.{partner}
+use Rattle.trees.proofs.Forest.Shape.{plain, inner-alone, outer-in}
+use Rattle.trees.proofs.Forest.Walk.{leg-head, leg-inner, leg-label}
+use Rattle.trees.proofs.Forest.Bow.{not-inner}
+use Rattle.trees.proofs.Forest.State.{State, state-bridge}
+use Rattle.trees.proofs.Forest.Link.{Tied, tied-start, tied-left, tied-right, not-met, x-out, y-out, x-inner, y-inner, absorbed, go-in}
 use Rattle.theory.proofs.Search.Cells.{by-test, cell-past, store-length, store-two-length, store-same, stored-one, stored-two, oneMore-is}
 use Rattle.theory.proofs.Search.Line.{labelOf, tail-room, tail-le, tail-reached, around-all, Admitted, admit-all}
 use Rattle.theory.proofs.Search.Shift.{moved, shift-length, shift-off, shift-at}

@@ -19,9 +19,9 @@ use Rattle.theory.specs.Search.Bounds.{contractions, scanned, partway, S
 use Rattle.graphs.proofs.Count.{cases, clash}
 use Rattle.graphs.proofs.Graph.{has-head, has-tail, has-cases}
 use Rattle.graphs.proofs.Sets.{is-self, cnt}
-use Rattle.theory.proofs.Ring.Chain.{Chain}
-use Rattle.theory.proofs.Ring.Stored.{Step}
-use Rattle.theory.proofs.Forest.Shape.{outer-in}
+use Rattle.trees.proofs.Ring.Chain.{Chain}
+use Rattle.trees.proofs.Ring.Stored.{Step}
+use Rattle.trees.proofs.Forest.Shape.{outer-in}
 use Rattle.theory.proofs.Search.Cells.{by-test, cell-in}
 use Rattle.theory.proofs.Search.Line.{tail-le, tail-reached}
 use Rattle.theory.proofs.Search.Ready.{Adj, Ready, forest, partner-in}

@@ -10,8 +10,8 @@ use lib.ListN.{length, set, length-set}
 use borrow.Author.Tests.{eqb-true, eqb-false}
 use Rattle.theory.specs.Search.Tables.{groups, cell, store, Rings}
 use Rattle.theory.specs.Search.Expose.{pairUp, couples, lift, expose}
-use Rattle.theory.proofs.Ring.Stored.{Above, above-le, above-next, Stored}
-use Rattle.theory.proofs.Ring.Exposed.{Exposed, exposed-none, Round, round-start, round-end, Couple, round-couple}
+use Rattle.trees.proofs.Ring.Stored.{Above, above-le, above-next, Stored}
+use Rattle.trees.proofs.Ring.Exposed.{Exposed, exposed-none, Round, round-start, round-end, Couple, round-couple}
 use Rattle.theory.proofs.Search.Cells.{by-test, store-is, store-length}
 
 -- ---- a pair stored

@@ -11,9 +11,9 @@ use Rattle.graphs.specs.Graph.{Graph, Simple}
 use Rattle.theory.specs.Search.Tables.{groups, cell, store, oneMore, Line, Tables}
 use Rattle.theory.specs.Search.Start.{enter}
 use Rattle.theory.specs.Search.Grow.{grow}
-use Rattle.theory.proofs.Forest.Grow.{Set2}
-use Rattle.theory.proofs.Forest.Applied.{partner}
-use Rattle.theory.proofs.Forest.State.{state-grow}
+use Rattle.trees.proofs.Forest.Grow.{Set2}
+use Rattle.trees.proofs.Forest.Applied.{partner}
+use Rattle.trees.proofs.Forest.State.{state-grow}
 use Rattle.theory.proofs.Search.Cells.{store-is, store-length, store-two-length, stored-one, stored-two, oneMore-is}
 use Rattle.theory.proofs.Search.Line.{labelOf, reached, Queued, Onward, onward-then, inner-line, inner-queued, inner-onward, inner-reached, Entered, entered, tail-room}
 use Rattle.theory.proofs.Search.Ready.{Adj, swap, bounded, Ready, Later, forest, mate-is, top-in, partner-in}

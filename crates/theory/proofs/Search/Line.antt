@@ -16,7 +16,7 @@ use Rattle.theory.specs.Search.Start.{enter}
 use Rattle.theory.specs.Search.Rings.{admit, around}
 use Rattle.graphs.proofs.Count.{tests, count-cong, count-mono, count-remove, count-not, count-le}
 use Rattle.graphs.proofs.Sets.{is, is-self, is-pos, Is, same, other, is?, cnt}
-use Rattle.theory.proofs.Ring.Chain.{Chain}
+use Rattle.trees.proofs.Ring.Chain.{Chain}
 use Rattle.theory.proofs.Search.Cells.{by-test, cell-in, cell-past, store-is, store-length, store-same, store-other, oneMore-is}
 
 -- the label of v; what is no route is not reached

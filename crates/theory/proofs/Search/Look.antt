@@ -18,7 +18,7 @@ use Rattle.theory.specs.Search.Rings.{absorb, contract}
 use Rattle.theory.specs.Search.Look.{strike, touch, look, scanRow, turn, run}
 use Rattle.graphs.proofs.Count.{cases, clash}
 use Rattle.graphs.proofs.Graph.{has-head, has-tail, has-cases}
-use Rattle.theory.proofs.Forest.Shape.{plain}
+use Rattle.trees.proofs.Forest.Shape.{plain}
 use Rattle.theory.proofs.Search.Cells.{by-test, cell-in}
 use Rattle.theory.proofs.Search.Line.{labelOf, onward-none}
 use Rattle.theory.proofs.Search.Ready.{Adj, bounded, Ready, Later, later-none, later-then, forest}

@@ -20,8 +20,8 @@ use Rattle.theory.specs.Search.Searched.{ownOr, inward, noneOr, outward}
 use Rattle.theory.specs.Search.Promise.{mateOf}
 use Rattle.graphs.proofs.Count.{cases}
 use Rattle.graphs.proofs.Sets.{is, is-self, is-other, total}
-use Rattle.theory.proofs.Forest.Inside as Inside
-use Rattle.theory.proofs.Forest.Applied.{partner}
+use Rattle.trees.proofs.Forest.Inside as Inside
+use Rattle.trees.proofs.Forest.Applied.{partner}
 use Rattle.theory.proofs.Search.Cells.{getD-any, length-rep, cell-in, cell-any, store-in, store-length, store-same, store-other}
 use Rattle.theory.proofs.Search.Ready.{Adj}
 

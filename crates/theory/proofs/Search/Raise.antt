@@ -13,12 +13,12 @@ use Rattle.graphs.specs.Graph.{Graph, Simple}
 use Rattle.theory.specs.Search.Tables.{groups, cell, Tables}
 use Rattle.theory.specs.Search.Expose.{pairUp, expose, raise, augmented}
 use Rattle.graphs.proofs.Sets.{is, sum, sum-append, total}
-use Rattle.theory.proofs.Ring.Pairs.{occ-append, Edges, edges-append}
-use Rattle.theory.proofs.Ring.Exposed.{Exposed, exposed-none, setAll, setAll-append}
-use Rattle.theory.proofs.Forest.Inside.{Pairing, Augmenting, Applied, better, better-keeps, better-count}
-use Rattle.theory.proofs.Forest.Applied.{partner, Within, applied-within}
-use Rattle.theory.proofs.Forest.Shape.{holds, outer-in, inner-in, mt-group}
-use Rattle.theory.proofs.Forest.Walk.{Leg, done, Rooted, all, all-sum, found-by, leg-snoc, leg-end}
+use Rattle.trees.proofs.Ring.Pairs.{occ-append, Edges, edges-append}
+use Rattle.trees.proofs.Ring.Exposed.{Exposed, exposed-none, setAll, setAll-append}
+use Rattle.trees.proofs.Forest.Inside.{Pairing, Augmenting, Applied, better, better-keeps, better-count}
+use Rattle.trees.proofs.Forest.Applied.{partner, Within, applied-within}
+use Rattle.trees.proofs.Forest.Shape.{holds, outer-in, inner-in, mt-group}
+use Rattle.trees.proofs.Forest.Walk.{Leg, done, Rooted, all, all-sum, found-by, leg-snoc, leg-end}
 use Rattle.theory.proofs.Search.Cells.{by-test}
 use Rattle.theory.proofs.Search.Ready.{Adj, swap, bounded, loopless, Ready, forest, mate-is, top-in}
 use Rattle.theory.proofs.Search.Line.{labelOf, tail-le}

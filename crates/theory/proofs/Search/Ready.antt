@@ -8,9 +8,9 @@ use Rattle.graphs.specs.Graph.{Graph, Simple, joined}
 use Rattle.theory.specs.Search.Tables.{groups, cell, Rings, Tables}
 use Rattle.theory.specs.Search.Promise.{Fits}
 use Rattle.graphs.proofs.Count.{clash}
-use Rattle.theory.proofs.Forest.Applied.{partner}
-use Rattle.theory.proofs.Forest.Shape.{Forest}
-use Rattle.theory.proofs.Forest.State.{State}
+use Rattle.trees.proofs.Forest.Applied.{partner}
+use Rattle.trees.proofs.Forest.Shape.{Forest}
+use Rattle.trees.proofs.Forest.State.{State}
 use Rattle.theory.proofs.Search.Cells.{cell-any}
 use Rattle.theory.proofs.Search.Line.{labelOf, reached, Queued, Onward, onward-none, onward-then}
 

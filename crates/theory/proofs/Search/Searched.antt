@@ -27,9 +27,9 @@ use Rattle.graphs.proofs.Parts.{map-at}
 use Rattle.graphs.proofs.Pairing.{pairs-unpaired, mate-moves}
 use Rattle.graphs.proofs.Largest.{largest-tight}
 use Rattle.graphs.proofs.Sets.{is, is-self, is-other, is-le, is-pos}
-use Rattle.theory.proofs.Forest.Inside as Inside
-use Rattle.theory.proofs.Forest.Applied.{partner}
-use Rattle.theory.proofs.Forest.Shape.{plain}
+use Rattle.trees.proofs.Forest.Inside as Inside
+use Rattle.trees.proofs.Forest.Applied.{partner}
+use Rattle.trees.proofs.Forest.Shape.{plain}
 use Rattle.theory.proofs.Search.Tight.{Closed, tight-surplus}
 use Rattle.theory.proofs.Search.Cells.{by-test}
 use Rattle.theory.proofs.Search.Line.{labelOf, tail-le}

@@ -16,9 +16,9 @@ use Rattle.theory.specs.Search.Tables.{groups, cell, store, Line}
 use Rattle.theory.specs.Search.Start.{enter, plant, seed, fill, start}
 use Rattle.theory.specs.Search.Promise.{Fits}
 use Rattle.graphs.proofs.Count.{clash, count-none}
-use Rattle.theory.proofs.Forest.Inside.{Pairing}
-use Rattle.theory.proofs.Forest.Applied.{partner}
-use Rattle.theory.proofs.Forest.State.{State, state-start}
+use Rattle.trees.proofs.Forest.Inside.{Pairing}
+use Rattle.trees.proofs.Forest.Applied.{partner}
+use Rattle.trees.proofs.Forest.State.{State, state-start}
 use Rattle.theory.proofs.Search.Cells.{by-test, length-rep, cell-any, cell-past, cell-rep, store-length, store-same, store-other}
 use Rattle.theory.proofs.Search.Line.{labelOf, reached, Queued, Entered, entered}
 use Rattle.theory.proofs.Search.Ready.{Adj, Ready}

@@ -1,0 +1,2 @@
+-- Edges is for the proof of `has_edge` alone.
+mod Edges

@@ -1,0 +1,2 @@
+-- To be believed: Longs, what the bytes of an answer are.
+pub mod Longs

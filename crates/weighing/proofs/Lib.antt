@@ -1,0 +1,2 @@
+-- Answers is for the proofs of this crate's functions alone.
+mod Answers
