@@ -1,5 +1,7 @@
 // The numbers of an answer of the exported calls, eight bytes each: the first three, which every call answers, the four
 // that improve answers after them, and the surplus in two's complement. The calls themselves stand in the crate `wisharek`.
+#![tactic(auto)]
+
 ghost use Rattle.std.specs.Prelude.{◌≡◌, ◌≤◌};
 ghost use Rattle.std.proofs.Math.IntN.{sub_ℕ};
 ghost use Rattle.limits.specs.Limits.{routes};

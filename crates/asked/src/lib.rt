@@ -1,4 +1,6 @@
 // The operations on a pairing by their codes, each with the reply that it is given.
+#![tactic(auto)]
+
 ghost use Rattle.std.specs.Prelude.{◌≡◌};
 ghost use Rattle.graphs.specs.Count.{bit};
 ghost use Rattle.asked.specs.Replies.{order_reply, has_node_reply, edges_reply, mate_reply, next_reply, unknown_reply, reply_to};
@@ -21,7 +23,7 @@ pub const AUGMENT: u32 = 4;
 pub const MATE: u32 = 5;
 
 // What an operation is answered: number, A and B, a value, and the pairing that is handed on.
-#[derive(Drop)]
+#[derive(Clone, Copy)]
 pub struct Reply {
     pub told: Told,
     pub value: u64,

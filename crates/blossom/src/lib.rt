@@ -1,6 +1,8 @@
 // A ring becomes a group. The walks of crate `linked` have stored the ring; here its inner routes turn outer and are queued,
 // and its routes are told their new group. Each function takes the tables that it touches, and its contract holds whatever
 // the others are.
+#![tactic(auto)]
+
 ghost use Rattle.std.specs.Prelude.{◌≡◌, Bool, List, ℕ};
 ghost use Rattle.limits.specs.Limits.{routes};
 ghost use Rattle.theory.specs.Search.Tables.{Rings};
@@ -12,7 +14,7 @@ use limits::ROUTES;
 use tables::{GROUPS, INNER, at, at_group, copy_group, one_more, put, put_group};
 
 // The queue's tail, and how many groups there are.
-#[derive(Drop)]
+#[derive(Clone, Copy)]
 pub struct Counts {
     pub tail: u32,
     pub ids: u32,

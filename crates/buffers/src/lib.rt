@@ -1,5 +1,7 @@
 // The lent bytes of pairing and witness: read into a table, and written from one. And the size of a pairing, read from
 // its bytes.
+#![tactic(auto)]
+
 ghost use Rattle.std.specs.Prelude.{◌≡◌, ◌&&◌, map, ◌*◌, ltb, length};
 ghost use Rattle.limits.specs.Limits.{routes};
 ghost use Rattle.graphs.specs.Parts.{run};

@@ -1,4 +1,6 @@
 // Refusal 10: what is wrong with a route's partner, and the lowest route with a wrong one. And how many have none.
+#![tactic(auto)]
+
 ghost use Rattle.std.specs.Prelude.{◌≡◌};
 ghost use Rattle.graphs.specs.Pairing.{unpaired};
 ghost use Rattle.rows.specs.Sheet.{graph_of};
@@ -11,7 +13,7 @@ use rows::{order, place, row};
 use words::word_at;
 
 // What is wrong with a partner, in the order in which it is tried.
-#[derive(Drop)]
+#[derive(Clone, Copy)]
 pub enum Cause {
     // nothing: none, or a neighbour that names the route back
     Sound,

@@ -1,6 +1,8 @@
 // The exported call of the checker, before it is exported: first the length of the answer buffer is tested, then the checks
 // are made in the order of their numbers, and the answer's numbers are written, eight bytes each, refused or not. The
-// crate `wisharek` exports it, `answers` has what writes the numbers.
+// crate `wisharek` has it under its name, `wisharek_c` exports it, and `answers` has what writes the numbers.
+#![tactic(auto)]
+
 ghost use Rattle.checking.specs.Calls.{CheckCall};
 
 use answers::put_told;

@@ -1,6 +1,8 @@
 // The refusals of the operations on a pairing, in the order in which they are tried: 10 for the table and its count, 14 to
 // 16 for one id or two. Those of a whole path stand in the crate `paths`, and what each is told as in `refusals`. The crate
 // `pairing` tries them before it does anything.
+#![tactic(auto)]
+
 ghost use Rattle.std.specs.Prelude.{◌≡◌};
 ghost use Rattle.mates.specs.Partners.{fits};
 ghost use Rattle.checks.specs.Checks.{misfit, pairing_reply, id_reply, pair_reply, mate_reply};
@@ -10,6 +12,7 @@ use mates::{IDS, is_paired, paired_ids, partner_of};
 use refusals::Refusal;
 
 // Whether the partner of an id is none, or another id that names it back.
+#[tactic(auto, unfolding(mates::specs::Partners::fits))]
 fn fits(t: &[u32; ROUTES], id: u32) -> bool
     ensures { result ≡ fits t.now id }
 {
@@ -68,6 +71,7 @@ pub fn id_refusal(position: usize, id: u32) -> Refusal
 }
 
 // 14 for the first id and for the second, then 15.
+#[tactic(auto, unfolding(crate::specs::Checks::pair_reply, crate::specs::Checks::id_reply))]
 pub fn pair_refusal(a: u32, b: u32) -> Refusal
     ensures { result ≡ pair_reply a b }
 {

@@ -1,5 +1,7 @@
 // The searches of `improve`, one after the other, in tables: no more than the budget, and a last one that tells whether a
 // larger pairing exists. What is lent and what is written back stand in the crate `improve`.
+#![tactic(auto)]
+
 ghost use Rattle.limits.specs.Limits.{routes};
 ghost use Rattle.rows.specs.Sheet.{graph_of};
 ghost use Rattle.climb.specs.Climb.{Climbs};

@@ -1,5 +1,7 @@
 // The ring that an edge closes becomes a group: the walks of crate `linked` store the ring, and crate `blossom` makes the
 // group of it.
+#![tactic(auto)]
+
 ghost use Rattle.std.specs.Prelude.{◌≡◌, Bool, ℕ};
 ghost use Rattle.limits.specs.Limits.{routes};
 ghost use Rattle.theory.specs.Search.Rings.{contract};

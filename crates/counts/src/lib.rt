@@ -1,5 +1,7 @@
 // What is counted over a table of parts and a set: how many parts have an odd number of routes, and how many routes are in
 // the set. No sheet is read: the table may hold any names.
+#![tactic(auto)]
+
 ghost use Rattle.std.specs.Prelude.{◌≡◌, ◌+◌, ◌<◌, length};
 ghost use Rattle.graphs.specs.Count.{bit, count};
 ghost use Rattle.graphs.specs.Graph.{in_set};

@@ -1,7 +1,9 @@
 // Operations on a pairing by itself, for runs from Rust; no part of the boundary. One call takes a pairing as bytes and
 // a list of operations as numbers, applies them in turn, writes the pairing back, and lays down what each of them
 // answered. Below stand the crates `lent` (the bytes and the numbers), `asked` (the operations) and `laid` (the numbers that
-// are laid down).
+// are laid down); the crate `drive_c` exports the call.
+#![tactic(auto)]
+
 ghost use Rattle.std.specs.Prelude.{◌≡◌, length};
 ghost use Rattle.std.proofs.lemmas.List.Edits.{sets};
 ghost use Rattle.lent.specs.State.{pairing_of, put_pairing};
@@ -16,14 +18,14 @@ use lent::{end_of, ids_at, number_at};
 use pairing::Pairing;
 
 // What one operation leaves: the pairing, and the place of the next answer.
-#[derive(Drop)]
+#[derive(Clone, Copy)]
 struct Step {
     pub pairing: Pairing,
     pub place: usize,
 }
 
 // What all operations leave: the pairing, and how many operations there were.
-#[derive(Drop)]
+#[derive(Clone, Copy)]
 struct Run {
     pub pairing: Pairing,
     pub count: usize,
@@ -71,8 +73,7 @@ fn perform_all(p: Pairing, ops: &[u32], answers: &mut [u64]) -> Run
 // its pairs), and how many operations there were is handed out. Nothing is asked of the lengths: a number of the pairing
 // whose bytes are not all there is none and is not written, an operation that the list cuts short has fewer ids, and
 // answers that find no room are left out.
-#[unsafe(no_mangle)]
-pub extern "C" fn drive_pairing(state: &mut [u8], ops: &[u32], answers: &mut [u64]) -> usize
+pub fn drive_pairing(state: &mut [u8], ops: &[u32], answers: &mut [u64]) -> usize
     ensures counted { result ≡ length (operations ops.now) }
     ensures pairing { state.new ≡ put_pairing state.old (performed (pairing_of state.old) (operations ops.now)) }
     ensures answers { answers.new ≡ sets answers.old 0 (said (pairing_of state.old) (operations ops.now)) }

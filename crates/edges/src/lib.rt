@@ -1,5 +1,7 @@
 // The lookup `has_edge` of default_graph.rs: whether two routes are joined. It takes any bytes; the crate `rows` has the
 // format and the other lookups.
+#![tactic(auto)]
+
 ghost use Rattle.std.specs.Prelude.{◌≡◌};
 ghost use Rattle.rows.specs.Sheet.{graph_of};
 ghost use Rattle.edges.specs.Edges.{edge_of};
@@ -8,7 +10,7 @@ use rows::{place, row};
 use words::word_at;
 
 // Whether two routes are joined, or the first id that is none.
-#[derive(Drop)]
+#[derive(Clone, Copy)]
 pub enum Edge {
     Joined,
     Apart,

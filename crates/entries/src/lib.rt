@@ -1,6 +1,8 @@
 // Refusals 4 to 7, by two tables: who names whom, from one run over all entries, and the last place of each id in a
 // row, from one run over the row. So an entry is answered in a few steps, whatever the bytes. Below stand the crates
 // `replies`, what a sheet is answered, `marks` and `places`, the two tables, and `one_entry`, an entry by the tables.
+#![tactic(auto)]
+
 ghost use Rattle.std.specs.Prelude.{◌≡◌, ◌≤◌};
 ghost use Rattle.limits.specs.Limits.{routes};
 ghost use Rattle.words.specs.Words.{numbers};

@@ -2,6 +2,8 @@
 // are coupled two by two round the ring, and so in every ring above it, up to the group itself. From each end of the edge
 // a walk goes up to its root, and exposes each group where it came into it. The pairs go into a copy of the table of
 // partners, since the walks read the old partners to the end.
+#![tactic(auto)]
+
 ghost use Rattle.std.specs.Prelude.{◌≡◌, List};
 ghost use Rattle.limits.specs.Limits.{routes};
 ghost use Rattle.theory.specs.Search.Tables.{groups, Tables};

@@ -2,6 +2,8 @@
 // partner are the roots, outer and queued in id order. From an outer route a step goes to a route that is not reached,
 // which turns inner, and on to its partner, which turns outer and is queued. Each function takes the tables that it
 // touches, and its contract holds whatever the others are.
+#![tactic(auto)]
+
 ghost use Rattle.std.specs.Prelude.{◌≡◌, Bool, List, ℕ};
 ghost use Rattle.limits.specs.Limits.{routes};
 ghost use Rattle.theory.specs.Search.Tables.{groups, Rings};

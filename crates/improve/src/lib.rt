@@ -1,6 +1,8 @@
 // At most so many pairs more, from the pairing that is lent. The work is done in local tables, and the lent bytes are
 // written in one last step, behind which only the size is read from them. A refusal leaves them alone. The searches stand in
 // the crate `climb`.
+#![tactic(auto)]
+
 ghost use Rattle.std.specs.Prelude.{◌≡◌, get_or};
 ghost use Rattle.limits.specs.Limits.{none};
 ghost use Rattle.words.specs.Words.{bytes_to};
@@ -17,7 +19,7 @@ use verdicts::{Verdict, refuses};
 use witness::improve_verdict;
 
 // The answer of `improve`.
-#[derive(Drop)]
+#[derive(Clone, Copy)]
 pub struct Improved {
     pub verdict: Verdict,
     pub added: u32,

@@ -1,4 +1,6 @@
 // The exported call for more pairs, before it is exported, in the same order as that of the crate `checking`.
+#![tactic(auto)]
+
 ghost use Rattle.improving.specs.ImproveCall.{ImproveCall};
 
 use answers::{put_more, put_told};

@@ -1,5 +1,7 @@
 // New pairs in the table of partners, and how many ids are paired then: two ids, and a whole path two by two. The crate
 // `pairing` calls both behind its checks.
+#![tactic(auto)]
+
 ghost use Rattle.std.specs.Prelude.{◌≡◌, ◌≢◌, ◌<◌};
 ghost use Rattle.limits.specs.Limits.{routes};
 ghost use Rattle.mates.specs.Partners.{Sound, count_of, paired, augmented};

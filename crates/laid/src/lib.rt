@@ -1,4 +1,6 @@
 // Numbers laid down one after the other in what is lent, as far as there is room: those of a reply, and the pairs behind it.
+#![tactic(auto)]
+
 ghost use Rattle.std.specs.Prelude.{◌≡◌};
 ghost use Rattle.asked.specs.Replies.{numbers_of, pairs_of, behind};
 ghost use Rattle.laid.specs.Answers.{laid, put, lay};

@@ -1,5 +1,7 @@
 // What `drive` is lent: a pairing as bytes (`state`), and operations as numbers, one after the other, each of them its code,
 // how many ids there are, and the ids.
+#![tactic(auto)]
+
 ghost use Rattle.std.specs.Prelude.{◌≡◌, get_or};
 ghost use Rattle.limits.specs.Limits.{none};
 ghost use Rattle.lent.specs.Operations.{end_of, ids_at};

@@ -1,6 +1,8 @@
 // What every crate above shares: how many routes there may be, the number that means none, and the form of an answer.
 // Every array's length and every bound of the crates above is derived from the two numbers. `specs/Limits.antt` says
 // them again for the contracts; the functions below are proved to answer them, so code and contracts cannot drift apart.
+#![tactic(auto)]
+
 ghost use Rattle.std.specs.Prelude.{◌≡◌};
 ghost use Rattle.limits.specs.Limits.{routes, none};
 
@@ -11,7 +13,7 @@ pub const ROUTES: usize = 512;
 pub const NONE: u32 = 4294967295;
 
 // What an answer says: its number, 0 for accepted, and its two details A and B, 0 where none is named.
-#[derive(Drop)]
+#[derive(Clone, Copy)]
 pub struct Told {
     pub no: u32,
     pub a: u64,

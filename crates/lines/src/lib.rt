@@ -1,4 +1,6 @@
 // The lines of a report, put into `out` from place k on. Each function answers the place after them.
+#![tactic(auto)]
+
 ghost use Rattle.std.specs.Prelude.{◌≡◌, ◌++◌};
 ghost use Rattle.causes.specs.Given.{set_of};
 ghost use Rattle.text.specs.Put.{Appends};

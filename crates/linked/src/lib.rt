@@ -1,5 +1,7 @@
 // Both walks of a ring, until they meet: the deeper one goes a step, and so on. The steps are those of crate `walks`, and
 // store the ring on the way.
+#![tactic(auto)]
+
 ghost use Rattle.std.specs.Prelude.{◌≡◌};
 ghost use Rattle.limits.specs.Limits.{routes};
 ghost use Rattle.theory.specs.Search.Tables.{Rings};

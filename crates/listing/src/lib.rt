@@ -1,5 +1,7 @@
 // The pairs of a table of partners, by lower id, rising, as a count beside two tables. The crate `pairing` calls `list_all`
 // behind its checks.
+#![tactic(auto)]
+
 ghost use Rattle.std.specs.Prelude.{◌≡◌, true, cond, ◌+◌, ◌/◌, ◌<◌, set};
 ghost use Rattle.limits.specs.Limits.{routes};
 ghost use Rattle.graphs.specs.Count.{bit};
@@ -14,7 +16,7 @@ use refusals::Refusal;
 pub const HALF: usize = ROUTES / 2;
 
 // What `edges` answers: a count beside two tables, in which the places past the count hold none.
-#[derive(Drop)]
+#[derive(Clone, Copy)]
 pub struct Edges {
     pub refusal: Refusal,
     pub count: usize,

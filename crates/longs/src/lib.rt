@@ -1,5 +1,7 @@
 // Numbers of eight bytes, lowest byte first, written whole or not at all. Those of four bytes stand in the crate
 // `words`.
+#![tactic(auto)]
+
 ghost use Rattle.std.specs.Prelude.{◌≡◌};
 ghost use Rattle.longs.specs.Longs.{put_long};
 

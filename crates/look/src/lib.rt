@@ -1,6 +1,8 @@
 // What the search does at an entry w of row v, where no edge between two trees is found yet. Within v's group, and where w
 // is inner, it does nothing. Where w is not reached, the tree grows. Where w is outer, the edge closes a ring in one tree,
 // or it stands between two trees and is found: that is `touch` of the crate below.
+#![tactic(auto)]
+
 ghost use Rattle.std.specs.Prelude.{◌≡◌, false};
 ghost use Rattle.limits.specs.Limits.{routes, none};
 ghost use Rattle.theory.specs.Search.Look.{look};

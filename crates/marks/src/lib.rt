@@ -1,5 +1,7 @@
 // The table of who names whom: one bit for each two ids, so that an entry's row need not be searched for the row's
 // route. An id past the limit is marked nowhere.
+#![tactic(auto)]
+
 ghost use Rattle.std.specs.Prelude.{◌≡◌, ◌<◌};
 ghost use Rattle.marks.specs.Marks.{bit_at, with_bit, marked, mark};
 

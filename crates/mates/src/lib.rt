@@ -1,5 +1,7 @@
 // The table of partners of a pairing by itself: place i holds the partner of id i, or none. What an operation on it is
 // refused with stands in the crates `refusals`, `checks` and `paths`, new pairs in `joins`.
+#![tactic(auto)]
+
 ghost use Rattle.std.specs.Prelude.{◌≡◌, ◌*◌};
 ghost use Rattle.graphs.specs.Count.{bit};
 ghost use Rattle.mates.specs.Partners.{mate_of, is_paired, count_of, freed};

@@ -1,5 +1,7 @@
 // The exported calls for the surplus of a set and for the parts that are left without it, before they are exported, in the
 // same order as that of the crate `checking`.
+#![tactic(auto)]
+
 ghost use Rattle.measuring.specs.Measures.{SurplusCall, PartsCall};
 
 use answers::{put_told, twos_of};

@@ -1,5 +1,7 @@
 // Refusals 4, 5 and 6 for one entry, by two tables: who names whom, of the crate `marks`, and the last place of each id
 // in the entry's row, of the crate `places`. The crate `entries` goes through the rows with it.
+#![tactic(auto)]
+
 ghost use Rattle.std.specs.Prelude.{◌≡◌};
 ghost use Rattle.one_entry.specs.OneEntry.{quick_entry};
 

@@ -3,6 +3,8 @@
 // where they are refused, and the others, which take a copy as well, answer what was asked. Below stand the crates
 // `mates`: the table of partners, `refusals`: what is refused, `checks` and `paths`: the refusals in the order of their numbers,
 // `joins`: new pairs in the table, and `listing`: the pairs of the table, by lower id.
+#![tactic(auto)]
+
 ghost use Rattle.std.specs.Prelude.{◌≡◌, ℕ, ◌<◌, get_or};
 ghost use Rattle.limits.specs.Limits.{routes, none};
 ghost use Rattle.mates.specs.Partners.{fresh};
@@ -19,35 +21,35 @@ pub use refusals::{Refusal, tell};
 use refusals::{first, refuses};
 
 // For each id its partner, or none, and how many ids have a partner.
-#[derive(Drop)]
+#[derive(Clone, Copy)]
 pub struct Pairing {
     pub partner: [u32; ROUTES],
     pub count: u32,
 }
 
 // What `pair` and `augment` answer: the next pairing, or the same where they are refused.
-#[derive(Drop)]
+#[derive(Clone, Copy)]
 pub struct Next {
     pub refusal: Refusal,
     pub pairing: Pairing,
 }
 
 // What `order` answers: how many ids are paired.
-#[derive(Drop)]
+#[derive(Clone, Copy)]
 pub struct Order {
     pub refusal: Refusal,
     pub ids: u32,
 }
 
 // What `has_node` answers.
-#[derive(Drop)]
+#[derive(Clone, Copy)]
 pub struct Node {
     pub refusal: Refusal,
     pub paired: bool,
 }
 
 // What `mate` answers: the partner.
-#[derive(Drop)]
+#[derive(Clone, Copy)]
 pub struct Mate {
     pub refusal: Refusal,
     pub id: u32,

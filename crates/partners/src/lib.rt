@@ -1,5 +1,7 @@
 // The partners on their way into a search and out of it. Outside, a route with no partner has none; inside, it is its own
 // partner, so that every cell of a route holds a route.
+#![tactic(auto)]
+
 ghost use Rattle.std.specs.Prelude.{◌≡◌};
 ghost use Rattle.limits.specs.Limits.{routes};
 ghost use Rattle.theory.specs.Search.Searched.{own_or, inward, none_or, outward};

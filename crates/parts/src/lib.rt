@@ -1,6 +1,8 @@
 // The parts that a graph falls into without the routes of a set: for each route the least route of its part, as a table
 // that each entry of each row merges. One loop reads the sheet (`join_rows`, row by row), all else takes tables. A merge is
 // made only where two names differ, so there are fewer merges than routes.
+#![tactic(auto)]
+
 ghost use Rattle.std.specs.Prelude.{◌≡◌, map, ◌<◌, min, length};
 ghost use Rattle.graphs.specs.Graph.{in_set};
 ghost use Rattle.graphs.specs.Parts.{run, merge, link, link_row, link_rows, parts};
@@ -19,6 +21,7 @@ fn lesser(a: u32, b: u32) -> u32
 }
 
 // The name x once the parts a and b are one.
+#[tactic(auto, unfolding(graphs::specs::Parts::merge))]
 fn merged(a: u32, b: u32, x: u32) -> u32
     ensures { result ≡ merge a b x }
 {

@@ -1,5 +1,7 @@
 // The refusals of a path of ids, in the order in which they are tried: 13, then 14 over all the path, then 15 over all its
 // pairs. Those of a table and of one id or two stand in the crate `checks`, new pairs along a path in `joins`.
+#![tactic(auto)]
+
 ghost use Rattle.std.specs.Prelude.{◌≡◌};
 ghost use Rattle.mates.specs.Partners.{id_at};
 ghost use Rattle.paths.specs.Paths.{unknown, self_pair, path_reply};
@@ -45,6 +47,7 @@ fn self_pair(path: &[u32]) -> usize
 }
 
 // 13, then 14 over all the path, then 15 over all its pairs.
+#[tactic(auto, unfolding(crate::specs::Paths::path_reply))]
 pub fn path_refusal(path: &[u32]) -> Refusal
     ensures { result ≡ path_reply path.now }
 {

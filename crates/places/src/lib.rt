@@ -1,5 +1,7 @@
 // The table of the last place of each id in a row, so that the rest of the row need not be searched for an entry's twin.
 // An id past the limit is kept nowhere.
+#![tactic(auto)]
+
 ghost use Rattle.std.specs.Prelude.{◌≡◌};
 ghost use Rattle.words.specs.Words.{numbers};
 ghost use Rattle.places.specs.Places.{kept, keep, last_places};

@@ -1,5 +1,7 @@
 // The rows of the queue, in order of entry, until an edge between two trees is found or the queue is done. Each route is
 // queued at most once, so the queue has at most one row for each route.
+#![tactic(auto)]
+
 ghost use Rattle.std.specs.Prelude.{◌≡◌, false};
 ghost use Rattle.limits.specs.Limits.{routes, none};
 ghost use Rattle.theory.specs.Search.Look.{run};

@@ -1,5 +1,7 @@
 // Why an operation on a pairing is refused, and with which numbers: 10 and 13 to 16. The refusals in the order in which they
 // are tried stand in the crates `checks` and `paths`, the table of partners in `mates`, the operations themselves in `pairing`.
+#![tactic(auto)]
+
 ghost use Rattle.std.specs.Prelude.{◌≡◌};
 ghost use Rattle.limits.specs.Answer.{told};
 ghost use Rattle.refusals.specs.Reply.{told_of, refuses, first};
@@ -7,7 +9,7 @@ ghost use Rattle.refusals.specs.Reply.{told_of, refuses, first};
 use limits::{ROUTES, Told};
 
 // Why an operation is refused.
-#[derive(Drop)]
+#[derive(Clone, Copy)]
 pub enum Refusal {
     // nothing to refuse
     Accepted,

@@ -1,12 +1,19 @@
 // Replays recorded answers of gamma through the exported calls, and prints how many of them agree. The files `data/rising`
 // and `data/other` have one input to a line and what gamma said of it; README.md says how, and what agrees. The file `stdout`
 // beside `src/` is counted from them, and not from a run of this program.
+#![tactic(auto)]
+
 use printing::{field, write};
-use samples::{ALL, Read, count, front, is_told, line_end, long_at, number_from, sheet_length};
+use samples::{ALL, count, front, is_told, line_end, long_at, number_from, sheet_length};
+use std::alloc::Global;
+use std::fs::File;
+use std::io;
+use std::io::{BufWriter, Read, Write};
+use std::rt::Files;
 use wisharek::{wisharek_check, wisharek_improve};
 use words::{put_word, word_at};
 
-// Room for a file's bytes, and one more.
+// The most bytes of a file, and one more.
 const BYTES: usize = 65536;
 
 // The most routes of a sheet.
@@ -94,7 +101,7 @@ fn length_of(sheet: &[u8]) -> usize {
 }
 
 // Whether number k of an answer is what gamma said.
-fn same(answer: &[u8], k: u32, said: Read) -> bool {
+fn same(answer: &[u8], k: u32, said: samples::Read) -> bool {
     long_at(answer, k) == said.x as u64
 }
 
@@ -230,58 +237,71 @@ fn replay(text: &[u8], counted: &mut [u64; KINDS]) {
 }
 
 // Writes the words before a count, and the count.
-fn put_count(words: &[u8], counted: &[u64; KINDS], kind: usize) {
+fn put_count<W: Write>(
+    out: &mut W,
+    words: &[u8],
+    counted: &[u64; KINDS],
+    kind: usize,
+) -> io::Result<()> {
     if kind < KINDS {
-        field(words, counted[kind]);
+        return field(out, words, counted[kind]);
     }
+    Ok(())
 }
 
 // Writes what was counted.
-fn put_counts(counted: &[u64; KINDS]) {
-    put_count(b" ", counted, 0);
-    put_count(b" refused alike, ", counted, 1);
-    put_count(b" with the same pairs, ", counted, 2);
-    put_count(b" with as many pairs, ", counted, 3);
-    write(b" differences\n");
+fn put_counts<W: Write>(out: &mut W, counted: &[u64; KINDS]) -> io::Result<()> {
+    put_count(out, b" ", counted, 0)?;
+    put_count(out, b" refused alike, ", counted, 1)?;
+    put_count(out, b" with the same pairs, ", counted, 2)?;
+    put_count(out, b" with as many pairs, ", counted, 3)?;
+    write(out, b" differences\n")
 }
 
 // Replays a text, and writes what was counted.
-fn report(text: &[u8]) {
+fn report<W: Write>(out: &mut W, text: &[u8]) -> io::Result<()> {
     let mut counted = [0u64; KINDS];
     replay(text, &mut counted);
-    put_counts(&counted);
+    put_counts(out, &counted)
 }
 
-// Replays the first bytes of the buffer, which were read.
-fn replay_bytes(path: &[u8], text: &[u8; BYTES], n: usize) {
-    if BYTES <= n {
-        write(b"the file is too long\n");
-        return;
+// Replays the bytes that were read.
+fn replay_bytes<W: Write>(out: &mut W, path: &str, text: &[u8]) -> io::Result<()> {
+    if BYTES <= text.len() {
+        return write(out, b"the file is too long\n");
     }
-    write(path);
-    write(b":");
-    report(front(text, n));
+    write(out, path.as_bytes())?;
+    write(out, b":")?;
+    report(out, text)
 }
 
 // Replays what an open file holds.
-fn replay_open(path: &[u8], fd: i32) {
-    let mut text = [0u8; BYTES];
-    let n = io::read_full(fd, &mut text);
-    libc::close(fd);
-    replay_bytes(path, &text, n);
+fn replay_open<R: Read + Drop, W: Write>(
+    alloc: Global,
+    out: &mut W,
+    path: &str,
+    file: R,
+) -> io::Result<()> {
+    let mut text = Vec::new(alloc);
+    file.take(BYTES as u64).read_to_end(&mut text)?;
+    replay_bytes(out, path, &text)
 }
 
-// One file.
-fn replay_file(path: &[u8]) {
-    let fd = os::open_read(path);
-    if fd < 0 {
-        os::fail(path);
-        return;
+// One file. Where it does not open, that is told on standard error, and the program goes on.
+fn replay_file<R: Files + Eprint + AllocGlobal, W: Write>(
+    rt: &R,
+    out: &mut W,
+    path: &str,
+) -> io::Result<()> {
+    match File::open(rt, path) {
+        Ok(file) => replay_open(rt.alloc(), out, path, file),
+        Err(e) => eprintln!(rt; "{path}: {e}"),
     }
-    replay_open(path, fd);
 }
 
-fn main() {
-    replay_file(b"rising");
-    replay_file(b"other");
+fn main(rt: HostRuntime) -> io::Result<()> {
+    let mut out = BufWriter::new(rt.alloc(), io::writer(&rt))?;
+    replay_file(&rt, &mut out, "rising")?;
+    replay_file(&rt, &mut out, "other")?;
+    out.flush()
 }

@@ -2,6 +2,8 @@
 // file `data/sample` has one operation to a line, what gamma answered, and the order and the pairs that it left;
 // README.md says how it was made. Its numbers are read into a table, in which each line begins with an operation in the
 // form that `drive` reads. The file `stdout` beside `src/` is counted from the sample, and not from a run of this program.
+#![tactic(auto)]
+
 ghost use Rattle.std.specs.Prelude.{◌≤◌};
 
 use asked::{AUGMENT, MATE, Reply, reply_to};
@@ -9,8 +11,12 @@ use lent::{end_of, ids_at, number_at};
 use pairing::{HALF, Pairing};
 use printing::{number, write};
 use samples::{count, is_digit, with_digit};
+use std::alloc::Global;
+use std::fs::File;
+use std::io;
+use std::io::{BufWriter, Read, Write};
 
-// Room for the sample's bytes, and one more.
+// The most bytes of the sample, and one more.
 const BYTES: usize = 131072;
 
 // Room for its numbers.
@@ -20,7 +26,7 @@ const NUMBERS: usize = 65536;
 const CODES: usize = 6;
 
 // A text, part of the way: the number that is being read, if one is, and how many were read before it.
-#[derive(Drop)]
+#[derive(Clone, Copy)]
 struct Reader {
     comment: bool,
     inside: bool,
@@ -30,7 +36,7 @@ struct Reader {
 
 // One line, replayed: its operation, whether gamma panicked at it, whether all of it agrees, the pairing that is left, and
 // where the next line begins.
-#[derive(Drop)]
+#[derive(Clone, Copy)]
 struct Replayed {
     code: u32,
     panicked: bool,
@@ -40,7 +46,7 @@ struct Replayed {
 }
 
 // How many lines there are, and how many of them differ.
-#[derive(Drop)]
+#[derive(Clone, Copy)]
 struct Counted {
     lines: u64,
     differences: u64,
@@ -270,19 +276,25 @@ fn count_at(t: &[u64; CODES], code: usize) -> u64 {
 }
 
 // Writes how often an operation was answered, and how often refused.
-fn line(name: &[u8], answered: &[u64; CODES], refused: &[u64; CODES], code: usize) {
-    write(name);
-    number(count_at(answered, code));
-    write(b" answered,");
-    number(count_at(refused, code));
-    write(b" refused\n");
+fn line<W: Write>(
+    out: &mut W,
+    name: &[u8],
+    answered: &[u64; CODES],
+    refused: &[u64; CODES],
+    code: usize,
+) -> io::Result<()> {
+    write(out, name)?;
+    number(out, count_at(answered, code))?;
+    write(out, b" answered,")?;
+    number(out, count_at(refused, code))?;
+    write(out, b" refused\n")
 }
 
 // Writes a count.
-fn total(name: &[u8], x: u64) {
-    write(name);
-    number(x);
-    write(b"\n");
+fn total<W: Write>(out: &mut W, name: &[u8], x: u64) -> io::Result<()> {
+    write(out, name)?;
+    number(out, x)?;
+    write(out, b"\n")
 }
 
 // The first numbers of the table, all of them where there are fewer.
@@ -295,65 +307,65 @@ fn front(numbers: &[u32], count: usize) -> &[u32] {
 }
 
 // Writes the counts of the operations that ask.
-fn report_asked(a: &[u64; CODES], r: &[u64; CODES]) {
-    line(b"order:", a, r, 0);
-    line(b"has_node:", a, r, 1);
-    line(b"pair:", a, r, 2);
+fn report_asked<W: Write>(out: &mut W, a: &[u64; CODES], r: &[u64; CODES]) -> io::Result<()> {
+    line(out, b"order:", a, r, 0)?;
+    line(out, b"has_node:", a, r, 1)?;
+    line(out, b"pair:", a, r, 2)
 }
 
 // Writes the counts of the others.
-fn report_others(a: &[u64; CODES], r: &[u64; CODES]) {
-    line(b"edges:", a, r, 3);
-    line(b"augment:", a, r, 4);
-    line(b"mate:", a, r, 5);
+fn report_others<W: Write>(out: &mut W, a: &[u64; CODES], r: &[u64; CODES]) -> io::Result<()> {
+    line(out, b"edges:", a, r, 3)?;
+    line(out, b"augment:", a, r, 4)?;
+    line(out, b"mate:", a, r, 5)
 }
 
 // Replays a table, and writes what was counted.
-fn report(numbers: &[u32]) {
+fn report<W: Write>(out: &mut W, numbers: &[u32]) -> io::Result<()> {
     let mut a = [0u64; CODES];
     let mut r = [0u64; CODES];
     let counted = replay(numbers, &mut a, &mut r);
-    report_asked(&a, &r);
-    report_others(&a, &r);
-    total(b"operations:", counted.lines);
-    total(b"differences:", counted.differences);
+    report_asked(out, &a, &r)?;
+    report_others(out, &a, &r)?;
+    total(out, b"operations:", counted.lines)?;
+    total(out, b"differences:", counted.differences)
 }
 
 // Replays the first numbers of the table.
-fn report_front(numbers: &[u32; NUMBERS], count: usize) {
-    report(front(numbers, count));
+fn report_front<W: Write>(out: &mut W, numbers: &[u32; NUMBERS], count: usize) -> io::Result<()> {
+    report(out, front(numbers, count))
 }
 
 // Replays a text.
-fn replay_text(text: &[u8]) {
+fn replay_text<W: Write>(out: &mut W, text: &[u8]) -> io::Result<()> {
     let mut numbers = [0u32; NUMBERS];
     let count = read_numbers(text, &mut numbers);
-    report_front(&numbers, count);
+    report_front(out, &numbers, count)
 }
 
-// Replays the first bytes of the buffer, which were read.
-fn replay_bytes(text: &[u8; BYTES], n: usize) {
-    if BYTES <= n {
-        write(b"the sample is too long\n");
-        return;
+// Replays the bytes that were read.
+fn replay_bytes<W: Write>(out: &mut W, text: &[u8]) -> io::Result<()> {
+    if BYTES <= text.len() {
+        return write(out, b"the sample is too long\n");
     }
-    replay_text(samples::front(text, n));
+    replay_text(out, text)
 }
 
 // Replays what a file holds.
-fn replay_file(fd: i32) {
-    let mut text = [0u8; BYTES];
-    let n = io::read_full(fd, &mut text);
-    libc::close(fd);
-    replay_bytes(&text, n);
+fn replay_file<R: Read + Drop, W: Write>(alloc: Global, out: &mut W, file: R) -> io::Result<()> {
+    let mut text = Vec::new(alloc);
+    file.take(BYTES as u64).read_to_end(&mut text)?;
+    replay_bytes(out, &text)
 }
 
-fn main() {
-    let path = b"sample";
-    let fd = os::open_read(path);
-    if fd < 0 {
-        os::fail(path);
-        return;
-    }
-    replay_file(fd);
+// Where the file does not open, that is told on standard error.
+fn main(rt: HostRuntime) -> io::Result<()> {
+    let path = "sample";
+    let file = match File::open(&rt, path) {
+        Ok(file) => file,
+        Err(e) => return eprintln!(rt; "{path}: {e}"),
+    };
+    let mut out = BufWriter::new(rt.alloc(), io::writer(&rt))?;
+    replay_file(rt.alloc(), &mut out, file)?;
+    out.flush()
 }

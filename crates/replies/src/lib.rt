@@ -1,13 +1,15 @@
 // What a sheet is answered: acceptance, or one of the refusals 1 to 7 with its details. `tell` has the number, A and B of
 // each, and `refuses` says which of them refuse. Which reply is due is said in the crates above: `entries` for 4 to 7, and
 // `sheet` for any bytes.
+#![tactic(auto)]
+
 ghost use Rattle.std.specs.Prelude.{◌≡◌};
 ghost use Rattle.replies.specs.Reply.{refuses, told_of};
 
 use limits::{ROUTES, Told};
 
 // What a sheet is answered. The names of the refused entries are those of the Rust's errors.
-#[derive(Drop)]
+#[derive(Clone, Copy)]
 pub enum Reply {
     // nothing to refuse
     Accepted,

@@ -1,5 +1,7 @@
 // What the planner's program writes for an input: one sheet, improved from nothing without a limit. Below stand the crates
 // `lines`, which writes each line, and `text`, which puts one thing after the other.
+#![tactic(auto)]
+
 ghost use Rattle.std.specs.Prelude.{◌≡◌, min, length};
 ghost use Rattle.limits.specs.Limits.{routes};
 ghost use Rattle.text.specs.Put.{room, Appends};

@@ -1,6 +1,8 @@
 // A row as the stretch of the sheet that holds it, and the lookups of default_graph.rs: `order` and `neighbors`; the
 // third, `has_edge`, is the crate `edges`. They take any bytes; `specs/Sheet.antt` has the format, and
 // `proofs/Slots.antt` shows where each entry of a sheet with right contents stands.
+#![tactic(auto)]
+
 ghost use Rattle.std.specs.Prelude.{◌≡◌};
 ghost use Rattle.words.specs.Words.{numbers};
 ghost use Rattle.rows.specs.Sheet.{order, part, stretch};
@@ -9,7 +11,7 @@ ghost use Rattle.rows.specs.Lookup.{place, neighbors_of};
 use words::word_at;
 
 // Where the neighbours of an id stand in the sheet, from a byte on and before another, or that there is no such id.
-#[derive(Drop)]
+#[derive(Clone, Copy)]
 pub enum Stretch {
     Row { from: usize, to: usize },
     UnknownId { id: u32 },

@@ -1,5 +1,7 @@
 // What the programs of the tests have in common beside printing: sheets that they write into memory, and the numbers of
 // recorded texts and of answers that they read. Nothing is asked of a caller: what finds no room is not put.
+#![tactic(auto)]
+
 ghost use Rattle.std.specs.Prelude.{◌≤◌, ◌<◌, length};
 
 use limits::{NONE, ROUTES};
@@ -127,7 +129,7 @@ pub fn with_digit(x: u32, byte: u8) -> u32 {
 }
 
 // A number, and the place behind it.
-#[derive(Drop)]
+#[derive(Clone, Copy)]
 pub struct Read {
     pub x: u32,
     pub next: usize,

@@ -1,5 +1,7 @@
 // A row of the sheet, entry by entry, until an edge between two trees is found: the one function of the search that reads
 // the sheet. The others take tables.
+#![tactic(auto)]
+
 ghost use Rattle.std.specs.Prelude.{◌≡◌, false};
 ghost use Rattle.limits.specs.Limits.{routes, none};
 ghost use Rattle.theory.specs.Search.Look.{scan_row};

@@ -1,5 +1,7 @@
 // One search from a pairing: one pair more, or a set of routes that shows that there is none. The tables are local, so a
 // search begins afresh from the partners and leaves nothing behind but its answer.
+#![tactic(auto)]
+
 ghost use Rattle.limits.specs.Limits.{routes};
 ghost use Rattle.rows.specs.Sheet.{graph_of};
 ghost use Rattle.search.specs.Answer.{Answers};

@@ -4,86 +4,110 @@
 // in the order of the list; its start is such a list of pairs. The file `stdin` beside `src/` has the layouts, one to a line.
 // The file `stdout` holds what is to be printed. It comes from a plain model of the search, written by
 // itself, and not from a run of this program.
+#![tactic(auto)]
+
 ghost use Rattle.std.specs.Prelude.{◌≤◌, ◌*◌, ◌+◌, length};
 
-use libc::STDIN_FILENO;
 use limits::{NONE, ROUTES};
 use printing::{field, number, write};
 use samples::{
     LARGE, front, is_told, line_end, number_from, place_of, put_all, put_entry, sheet_length,
 };
 use search::searched;
+use std::io;
+use std::io::{BufWriter, Read, Write};
 use tables::{INNER, at, put};
 use words::put_word;
 
-// Room for the bytes of the layouts' lines.
-const BYTES: usize = 65536;
+// The most bytes that are read: the layouts' lines.
+const BYTES: u64 = 65536;
 
 // Writes a pair, where v has a partner and is the lower of the two.
-fn pair(v: u32, w: u32) {
+fn pair<W: Write>(out: &mut W, v: u32, w: u32) -> io::Result<()> {
     if w == NONE {
-        return;
+        return Ok(());
     }
     if w <= v {
-        return;
+        return Ok(());
     }
-    number(v as u64);
-    field(b"-", w as u64);
+    number(out, v as u64)?;
+    field(out, b"-", w as u64)
 }
 
 // Writes the pairs of n routes, by lower route, rising.
-fn pairs(p: &[u32; ROUTES], n: u32) {
-    write(b"pairs");
+fn pairs<W: Write>(out: &mut W, p: &[u32; ROUTES], n: u32) -> io::Result<()> {
+    write(out, b"pairs")?;
     let mut v = 0;
     while v < n {
-        pair(v, at(p, v));
+        pair(out, v, at(p, v))?;
         v += 1;
     }
-    write(b"\n");
+    write(out, b"\n")
 }
 
 // Writes the inner ones of n routes, rising: the witness.
-fn over(label: &[u32; ROUTES], n: u32) {
-    write(b"over");
+fn over<W: Write>(out: &mut W, label: &[u32; ROUTES], n: u32) -> io::Result<()> {
+    write(out, b"over")?;
     let mut v = 0;
     while v < n {
         if at(label, v) == INNER {
-            number(v as u64);
+            number(out, v as u64)?;
         }
         v += 1;
     }
-    write(b"\n");
+    write(out, b"\n")
 }
 
 // Writes what a search brings.
-fn tell(name: &[u8], found: bool, n: u32, p: &[u32; ROUTES], label: &[u32; ROUTES]) {
-    write(name);
+fn tell<W: Write>(
+    out: &mut W,
+    name: &[u8],
+    found: bool,
+    n: u32,
+    p: &[u32; ROUTES],
+    label: &[u32; ROUTES],
+) -> io::Result<()> {
+    write(out, name)?;
     if found {
-        write(b": found\n");
-        pairs(p, n);
-        return;
+        write(out, b": found\n")?;
+        return pairs(out, p, n);
     }
-    write(b": stuck\n");
-    pairs(p, n);
-    over(label, n);
+    write(out, b": stuck\n")?;
+    pairs(out, p, n)?;
+    over(out, label, n)
 }
 
 // One search, and what it brings. The answer is whether a pair more was found.
-fn once(name: &[u8], s: &[u8], n: u32, p: &mut [u32; ROUTES], label: &mut [u32; ROUTES]) -> bool {
+fn once<W: Write>(
+    out: &mut W,
+    name: &[u8],
+    s: &[u8],
+    n: u32,
+    p: &mut [u32; ROUTES],
+    label: &mut [u32; ROUTES],
+) -> io::Result<bool> {
     let found = searched(s, p, label);
-    tell(name, found, n, p, label);
-    found
+    tell(out, name, found, n, p, label)?;
+    Ok(found)
 }
 
 // Searches one after the other, until one finds nothing. There are fewer pairs than routes, so n searches are enough.
-fn searches(name: &[u8], s: &[u8], n: u32, p: &mut [u32; ROUTES], label: &mut [u32; ROUTES]) {
+fn searches<W: Write>(
+    out: &mut W,
+    name: &[u8],
+    s: &[u8],
+    n: u32,
+    p: &mut [u32; ROUTES],
+    label: &mut [u32; ROUTES],
+) -> io::Result<()> {
     let mut k = 0;
     while k < n {
-        if !once(name, s, n, p, label) {
-            return;
+        if !once(out, name, s, n, p, label)? {
+            return Ok(());
         }
         k += 1;
     }
+    Ok(())
 }
 
 // The route of a digit; after 9 come letters, a for 10.
@@ -199,35 +223,48 @@ fn begin_side_by_side(p: &mut [u32; ROUTES], k: u32) {
 }
 
 // The searches on the sheet of n routes that ends after so many bytes.
-fn from_start(name: &[u8], s: &[u8; LARGE], bytes: usize, n: u32, p: &mut [u32; ROUTES]) {
+fn from_start<W: Write>(
+    out: &mut W,
+    name: &[u8],
+    s: &[u8; LARGE],
+    bytes: usize,
+    n: u32,
+    p: &mut [u32; ROUTES],
+) -> io::Result<()> {
     let mut label = [0u32; ROUTES];
-    searches(name, front(s, bytes), n, p, &mut label);
+    searches(out, name, front(s, bytes), n, p, &mut label)
 }
 
 // A layout of n routes by its edges, from the pairs of a start.
-fn layout(name: &[u8], n: u32, edges: &[u8], start: &[u8]) {
+fn layout<W: Write>(
+    out: &mut W,
+    name: &[u8],
+    n: u32,
+    edges: &[u8],
+    start: &[u8],
+) -> io::Result<()> {
     let mut s = [0u8; LARGE];
     let mut p = [NONE; ROUTES];
     let total = put_sheet(&mut s, n, edges);
     begin(&mut p, start);
-    from_start(name, &s, sheet_length(n, total), n, &mut p);
+    from_start(out, name, &s, sheet_length(n, total), n, &mut p)
 }
 
 // All of n routes joined, the first of them paired side by side.
-fn all_of(name: &[u8], n: u32, paired: u32) {
+fn all_of<W: Write>(out: &mut W, name: &[u8], n: u32, paired: u32) -> io::Result<()> {
     let mut s = [0u8; LARGE];
     let mut p = [NONE; ROUTES];
     let total = put_all(&mut s, n);
     begin_side_by_side(&mut p, paired);
-    from_start(name, &s, sheet_length(n, total), n, &mut p);
+    from_start(out, name, &s, sheet_length(n, total), n, &mut p)
 }
 
 // All routes joined.
-fn complete() {
+fn complete<W: Write>(out: &mut W) -> io::Result<()> {
     // one pair more, and no route is left
-    all_of(b"all of 4", 4, 2);
+    all_of(out, b"all of 4", 4, 2)?;
     // one route is left, and all are one group; entry numbers go above 65,535
-    all_of(b"all of 257", 257, 256);
+    all_of(out, b"all of 257", 257, 256)
 }
 
 // What stands before the first such byte of a line, or all of it.
@@ -247,33 +284,37 @@ fn behind(line: &[u8], byte: u8) -> &[u8] {
 }
 
 // The layout of a line.
-fn case(line: &[u8]) {
+fn case<W: Write>(out: &mut W, line: &[u8]) -> io::Result<()> {
     let n = number_from(line, place_of(line, b':'));
     let lists = behind(line, b'|');
     layout(
+        out,
         before(line, b':'),
         n.x,
         before(lists, b'|'),
         behind(lists, b'|'),
-    );
+    )
 }
 
 // All layouts, in turn.
-fn cases(text: &[u8]) {
+fn cases<W: Write>(out: &mut W, text: &[u8]) -> io::Result<()> {
     let mut at = 0;
     while at < text.len() {
         let end = line_end(text, at);
         let line = &text[at..end];
         if is_told(line) {
-            case(line);
+            case(out, line)?;
         }
         at = end + 1;
     }
+    Ok(())
 }
 
-fn main() {
-    let mut text = [0u8; BYTES];
-    let n = io::read_full(STDIN_FILENO, &mut text);
-    cases(front(&text, n));
-    complete();
+fn main(rt: HostRuntime) -> io::Result<()> {
+    let mut text = Vec::new(rt.alloc());
+    rt.reader().take(BYTES).read_to_end(&mut text)?;
+    let mut out = BufWriter::new(rt.alloc(), io::writer(&rt))?;
+    cases(&mut out, &text)?;
+    complete(&mut out)?;
+    out.flush()
 }

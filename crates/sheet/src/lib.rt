@@ -2,6 +2,8 @@
 // byte through. `check` answers refusals 1 to 7 for any bytes at all, in the order of the numbers. Below stand the crates
 // `words`, four bytes and a number, `rows`, a row as a stretch and the lookups, `replies`, what a sheet is answered, and
 // `entries`, the checks of the entries.
+#![tactic(auto)]
+
 ghost use Rattle.std.specs.Prelude.{◌≡◌, ◌+◌, leb};
 ghost use Rattle.words.specs.Words.{word};
 ghost use Rattle.sheet.specs.Reply.{reply_of, shaped};

@@ -3,6 +3,8 @@
 // which is no route, no group and no label; a store there does nothing. So no function above asks where an index stands,
 // and one compare a cell is what it costs. `specs/Shapes.antt` puts the tables of the code together as the records that
 // the definition of the search is about.
+#![tactic(auto)]
+
 ghost use Rattle.std.specs.Prelude.{◌≡◌};
 ghost use Rattle.limits.specs.Limits.{routes};
 ghost use Rattle.theory.specs.Search.Tables.{groups, cell, store, one_more, unreached, inner, outer};

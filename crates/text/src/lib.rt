@@ -1,5 +1,7 @@
 // Writing after what stands: each function puts bytes into `out` from place k on, and answers the place after them.
 // Where there is no room left nothing is put; `specs/Put.antt` says so, and a report always has room.
+#![tactic(auto)]
+
 ghost use Rattle.std.specs.Prelude.{◌≡◌, [], ◌∷◌, ◌+◌, ◌<◌};
 ghost use Rattle.text.specs.Put.{Appends};
 ghost use Rattle.text.specs.Digits.{digits_in, digits, spaced};

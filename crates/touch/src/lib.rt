@@ -1,5 +1,7 @@
 // An outer entry w of row v, of another group: the edge closes a ring in one tree, which becomes a group, or it stands
 // between two trees and is found.
+#![tactic(auto)]
+
 ghost use Rattle.std.specs.Prelude.{◌≡◌, false};
 ghost use Rattle.limits.specs.Limits.{routes, none};
 ghost use Rattle.theory.specs.Search.Look.{touch};
@@ -10,7 +12,7 @@ use limits::{NONE, ROUTES};
 use tables::{GROUPS, at, at_group};
 
 // The queue's tail, how many groups there are, whether an edge between two trees is found, and its ends.
-#[derive(Drop)]
+#[derive(Clone, Copy)]
 pub struct Marks {
     pub tail: u32,
     pub ids: u32,

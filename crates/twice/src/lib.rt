@@ -1,5 +1,7 @@
 // The law of two calls: the exported call made twice in a row leaves what one call with the summed budget leaves. It is
 // no part of the boundary, which is the crate `wisharek`.
+#![tactic(auto)]
+
 ghost use Rattle.std.specs.Prelude.{◌≡◌, length};
 ghost use Rattle.twice.specs.Two.{TwoCalls};
 

@@ -1,5 +1,7 @@
 // What surplus, parts, checker and improve answer: the verdicts 1 to 12, with the number and the values of each, and the
 // checks that give one verdict each, for any bytes. Their order, and 12, are the crate `witness`.
+#![tactic(auto)]
+
 ghost use Rattle.std.specs.Prelude.{◌≡◌, get_or};
 ghost use Rattle.rows.specs.Sheet.{graph_of};
 ghost use Rattle.causes.specs.Given.{mate_of};
@@ -12,7 +14,7 @@ use rows::order;
 use words::word_at;
 
 // What surplus, parts, checker and improve answer.
-#[derive(Drop)]
+#[derive(Clone, Copy)]
 pub enum Verdict {
     // nothing to refuse
     Accepted,

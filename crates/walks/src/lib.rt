@@ -1,6 +1,8 @@
 // The steps of the two walks of a ring. They go up from the ends of the edge that closes it; on the way each group of the
 // ring stores the next one and the edge to it, in the ring's direction. Which walk goes, and until when, is in crate
 // `linked`. Each function takes the tables that it touches, and its contract holds whatever the others are.
+#![tactic(auto)]
+
 ghost use Rattle.std.specs.Prelude.{◌≡◌, List, ℕ, eqb};
 ghost use Rattle.limits.specs.Limits.{routes};
 ghost use Rattle.theory.specs.Search.Tables.{cell, Rings};
@@ -11,7 +13,7 @@ use limits::ROUTES;
 use tables::{GROUPS, at, at_group, one_more, put_group, put_two};
 
 // Where the two walks of a ring have come to, and how many steps they have made.
-#[derive(Drop)]
+#[derive(Clone, Copy)]
 pub struct Ends {
     pub x: u32,
     pub y: u32,

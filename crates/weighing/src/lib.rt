@@ -1,6 +1,8 @@
 // What a signaller rechecks by hand: `weigh` answers the surplus of a set of routes, and `divide` the parts that are left
 // without it. What both answer is defined in the crate `witness`, beside the checker; the counts of a set, and the names of its
 // parts, stand in `weights`, and the checks one by one in `verdicts`.
+#![tactic(auto)]
+
 ghost use Rattle.std.specs.Prelude.{◌≡◌};
 ghost use Rattle.witness.specs.Verdict.{surplus_verdict, parts_verdict};
 ghost use Rattle.witness.specs.Promise.{Parted, Surplus};
@@ -11,7 +13,7 @@ pub use weights::Weight;
 use weights::{divide_of, surplus_of, weight_of};
 
 // The answer of `weigh`.
-#[derive(Drop)]
+#[derive(Clone, Copy)]
 pub struct Weighed {
     pub verdict: Verdict,
     pub weight: Weight,
@@ -19,7 +21,7 @@ pub struct Weighed {
 }
 
 // The answer of `divide`.
-#[derive(Drop)]
+#[derive(Clone, Copy)]
 pub struct Divided {
     pub verdict: Verdict,
     pub weight: Weight,

@@ -1,5 +1,7 @@
 // What is counted of a set of routes: the odd parts that are left without it, and its size; their difference, as a signed
 // number; and the names of the parts, written out. Each by a table with a cell for each route.
+#![tactic(auto)]
+
 ghost use Rattle.std.specs.Prelude.{◌≡◌, ◌*◌, ◌<◌, ◌≤◌, length, get_or, cond};
 ghost use Rattle.std.proofs.Math.IntN.{sub_ℕ};
 ghost use Rattle.limits.specs.Limits.{routes, none};
@@ -18,7 +20,7 @@ use rows::order;
 use words::put_word;
 
 // The odd parts that are left without a set, and the size of the set.
-#[derive(Drop)]
+#[derive(Clone, Copy)]
 pub struct Weight {
     pub odd: u32,
     pub size: u32,

@@ -2,6 +2,8 @@
 // the set of the witness meets the bound, that is, where the unpaired routes are as many as its surplus. Below stand the
 // crates `causes` (refusal 10, and the unpaired routes), `verdicts` (the verdicts, and the checks one by one) and `weights`
 // (the counts of a set); above it stands `weighing` (the surplus of a set, and its parts).
+#![tactic(auto)]
+
 ghost use Rattle.std.specs.Prelude.{◌≡◌, length};
 ghost use Rattle.rows.specs.Sheet.{order, graph_of};
 ghost use Rattle.sheet.specs.Reply.{reply_of};

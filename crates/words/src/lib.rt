@@ -1,4 +1,6 @@
 // Numbers of four bytes, lowest byte first, read and written whole or not at all.
+#![tactic(auto)]
+
 ghost use Rattle.std.specs.Prelude.{◌≡◌, ◌+◌, ◌*◌};
 ghost use Rattle.words.specs.Words.{word, put_word};
 

@@ -1,8 +1,8 @@
-//! The planner's program, target/bin/plan at the top of the repository, which `rt check plan` makes. Its text is read
-//! back: the pairs and the set in it have to pass the plain checker, and the text has to be the one that they give.
+//! The planner's program, crates/plan/out/plan at the top of the repository, which `rt ci` leaves and `rt run` in
+//! crates/plan makes. Its text is read back: the pairs and the set in it have to pass the plain checker, and the text has
+//! to be the one that they give.
 use sheets::{calls, layouts, plain, random::Random};
 use std::{
-    env::consts::ARCH,
     fs,
     io::Write,
     path::{Path, PathBuf},
@@ -13,23 +13,14 @@ fn top() -> PathBuf {
     Path::new(env!("CARGO_MANIFEST_DIR")).join("../..")
 }
 
-/// The program. It is for x86-64; on another processor the kit of `rt` has an emulator.
+/// The program. `rt` links programs for x86-64 alone.
 fn program() -> Command {
-    let program = top().join("target/bin/plan");
-    if ARCH == "x86_64" {
-        return Command::new(program);
-    }
-    let guide = Command::new("rt").arg("doc").output().expect("rt doc").stdout;
-    let guide = PathBuf::from(String::from_utf8(guide).expect("a path"));
-    let tools = guide.ancestors().nth(2).expect("the kit").join("on").join(ARCH).join("toolchain");
-    let mut command = Command::new(tools.join("bin/qemu-x86_64"));
-    command.arg(tools.join("lib/ld-linux-x86-64.so.2")).arg("--library-path").arg(tools.join("lib")).arg(program);
-    command
+    Command::new(top().join("crates/plan/out/plan"))
 }
 
 /// What the program writes for an input.
 fn plan(input: &[u8]) -> String {
-    let mut child = program().stdin(Stdio::piped()).stdout(Stdio::piped()).spawn().expect("rt check plan");
+    let mut child = program().stdin(Stdio::piped()).stdout(Stdio::piped()).spawn().expect("rt run in crates/plan");
     child.stdin.take().expect("its input").write_all(input).expect("to be read");
     let output = child.wait_with_output().expect("its output");
     assert!(output.status.success());

@@ -1,4 +1,4 @@
-//! The exported functions of the archive target/native/libwisharek.a (crates/wisharek), and all that is unsafe about
+//! The exported functions of the archive target/native/libwisharek.a (crates/wisharek_c), and all that is unsafe about
 //! calling them. Lent memory must not overlap; nothing else is asked, whatever the lengths and the bytes.
 
 #[cfg(not(archive))]

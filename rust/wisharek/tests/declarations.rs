@@ -18,7 +18,7 @@ fn declarations() -> Vec<String> {
 
 #[test]
 fn declaration_differs_from_export() {
-    let exported = exported(&read("crates/wisharek/src/lib.rt"));
+    let exported = exported(&read("crates/wisharek_c/src/lib.rt"));
     assert_eq!(declarations(), exported);
     assert_eq!(exported.len(), 4, "the exported functions: {exported:?}");
 }

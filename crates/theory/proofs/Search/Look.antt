@@ -165,7 +165,7 @@ unfolding scan_row has
 scan-looked {s = s} S H v o [] f = record { hunt = H; later = later-none s; seen = λ h w k. clash false k refl }
 scan-looked {g} {room} {s} S H v o (w ∷ ws) f =
     let a : Looked g room s (look room s v w) v (λ x. x ≡ w) = look-looked S H v w o (f w (has-head w ws)) in
-    join a (scan-looked S a.hunt v (a.later.onward.outer v o) ws (λ x h. f x (has-tail w ws x h)))
+    join a (scan-looked {s = look room s v w} S a.hunt v (a.later.onward.outer v o) ws (λ x h. f x (has-tail w ws x h)))
   where
     join : {b c : Tables} → Looked g room s b v (λ x. x ≡ w) → Looked g room b c v (λ x. has ws x ≡ true) → Looked g room s c v (λ x. has (w ∷ ws) x ≡ true)
     join {b} {c} p q = record {

@@ -1,4 +1,4 @@
-//! The proved operations, as the archive target/native/libdrive.a exports them (crates/drive).
+//! The proved operations, as the archive target/native/libdrive.a exports them (crates/drive_c).
 use pairings::operation::{IDS, NONE};
 
 #[cfg(not(drive))]

@@ -1,4 +1,4 @@
-//! The proved reader, as the archive target/native/libprobe.a exports it (crates/probe).
+//! The proved reader, as the archive target/native/libprobe.a exports it (crates/probe_c).
 
 #[cfg(not(probe))]
 compile_error!("target/native/libprobe.a is not there: run tools/staticlib probe at the top of the repository first");

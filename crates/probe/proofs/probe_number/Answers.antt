@@ -1,0 +1,5 @@
+-- `probe::probe_number` meets its contract: what `check` and `tell` ensure, one after the other. Assumes nothing.
+use Rattle.probe.proofs.probe_number.Goals as goal
+
+pub returns : goal.returns
+returns c = cc
