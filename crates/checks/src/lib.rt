@@ -12,7 +12,6 @@ use mates::{IDS, is_paired, paired_ids, partner_of};
 use refusals::Refusal;
 
 // Whether the partner of an id is none, or another id that names it back.
-#[tactic(auto, unfolding(mates::specs::Partners::fits))]
 fn fits(t: &[u32; ROUTES], id: u32) -> bool
     ensures { result ≡ fits t.now id }
 {

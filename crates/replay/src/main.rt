@@ -287,7 +287,7 @@ fn replay_open<R: Read + Drop, W: Write>(
     replay_bytes(out, path, &text)
 }
 
-// One file. Where it does not open, that is told on standard error, and the program goes on.
+// One file. Where it does not open, that is told on standard error after what was written before, and the program goes on.
 fn replay_file<R: Files + Eprint + AllocGlobal, W: Write>(
     rt: &R,
     out: &mut W,
@@ -295,7 +295,10 @@ fn replay_file<R: Files + Eprint + AllocGlobal, W: Write>(
 ) -> io::Result<()> {
     match File::open(rt, path) {
         Ok(file) => replay_open(rt.alloc(), out, path, file),
-        Err(e) => eprintln!(rt; "{path}: {e}"),
+        Err(e) => {
+            out.flush()?;
+            eprintln!(rt; "{path}: {e}")
+        }
     }
 }
 
