@@ -2,27 +2,64 @@
 #![tactic(auto)]
 
 ghost use Rattle.std.specs.Prelude.{◌≡◌};
-ghost use Rattle.graphs.specs.Count.{bit};
-ghost use Rattle.asked.specs.Replies.{order_reply, has_node_reply, edges_reply, mate_reply, next_reply, unknown_reply, reply_to};
+ghost use Rattle.asked.specs.Kinds.{code_of, Decodes};
+ghost use Rattle.asked.specs.Replies.{answer, next_reply, unknown_reply, reply_to};
 
 use lent::number_at;
-use limits::{NONE, Told};
-use pairing::{Next, Pairing, tell};
+use limits::{NONE, Told, tell};
+use pairing::{Pairing, Refusal, Refused};
 
-// The codes.
-pub const ORDER: u32 = 0;
+// Which operation is asked.
+#[derive(Clone, Copy)]
+pub enum Kind {
+    Order,
+    HasNode,
+    Pair,
+    Edges,
+    Augment,
+    Mate,
+}
 
-pub const HAS_NODE: u32 = 1;
+// A code that names no operation.
+#[derive(Clone, Copy)]
+pub struct UnknownCode(pub u32);
 
-pub const PAIR: u32 = 2;
+// The operations by their codes.
+impl TryFrom<u32> for Kind {
+    type Error = UnknownCode;
 
-pub const EDGES: u32 = 3;
+    ghost try_from_gives = { Decodes };
 
-pub const AUGMENT: u32 = 4;
+    fn try_from(code: u32) -> Result<Self, UnknownCode> {
+        match code {
+            0 => Ok(Kind::Order),
+            1 => Ok(Kind::HasNode),
+            2 => Ok(Kind::Pair),
+            3 => Ok(Kind::Edges),
+            4 => Ok(Kind::Augment),
+            5 => Ok(Kind::Mate),
+            _ => Err(UnknownCode(code)),
+        }
+    }
+}
 
-pub const MATE: u32 = 5;
+impl From<Kind> for u32 {
+    ghost from_gives = { λ kind code. code ≡ code_of kind };
 
-// What an operation is answered: number, A and B, a value, and the pairing that is handed on.
+    fn from(kind: Kind) -> u32 {
+        match kind {
+            Kind::Order => 0,
+            Kind::HasNode => 1,
+            Kind::Pair => 2,
+            Kind::Edges => 3,
+            Kind::Augment => 4,
+            Kind::Mate => 5,
+        }
+    }
+}
+
+// What an operation is answered, as the numbers that `drive` lays down for Rust: number, A and B, a value, which is 0 beside
+// a refusal; and the pairing that is handed on.
 #[derive(Clone, Copy)]
 pub struct Reply {
     pub told: Told,
@@ -30,93 +67,39 @@ pub struct Reply {
     pub pairing: Pairing,
 }
 
-// 1 for yes, 0 for no.
-fn one_if(yes: bool) -> u64
-    ensures { result ≡ bit yes }
+// What an operation answers that hands on this pairing: a value, or why it is refused.
+fn answer(outcome: Result<u64, Refusal>, pairing: Pairing) -> Reply
+    ensures { result ≡ answer outcome pairing }
 {
-    if yes {
-        return 1;
-    }
-    0
-}
-
-// How many ids are paired.
-fn to_order(p: Pairing) -> Reply
-    ensures { result ≡ order_reply p }
-{
-    let x = p.order();
-    let refusal = x.refusal;
     Reply {
-        told: tell(refusal),
-        value: x.ids as u64,
-        pairing: p,
-    }
-}
-
-// Whether an id is paired.
-fn to_has_node(p: Pairing, i: u32) -> Reply
-    ensures { result ≡ has_node_reply p i }
-{
-    let x = p.has_node(i);
-    let refusal = x.refusal;
-    Reply {
-        told: tell(refusal),
-        value: one_if(x.paired),
-        pairing: p,
-    }
-}
-
-// How many pairs there are.
-fn to_edges(p: Pairing) -> Reply
-    ensures { result ≡ edges_reply p }
-{
-    let x = p.edges();
-    let refusal = x.refusal;
-    Reply {
-        told: tell(refusal),
-        value: x.count as u64,
-        pairing: p,
-    }
-}
-
-// The partner of an id.
-fn to_mate(p: Pairing, i: u32) -> Reply
-    ensures { result ≡ mate_reply p i }
-{
-    let x = p.mate(i);
-    let refusal = x.refusal;
-    Reply {
-        told: tell(refusal),
-        value: x.id as u64,
-        pairing: p,
-    }
-}
-
-// What `pair` and `augment` answer.
-fn to_next(x: Next) -> Reply
-    ensures { result ≡ next_reply x }
-{
-    let refusal = x.refusal;
-    let pairing = x.pairing;
-    Reply {
-        told: tell(refusal),
-        value: 0,
+        told: tell(outcome.map(|_| ())),
+        value: outcome.unwrap_or(0),
         pairing,
     }
 }
 
-// A code that names no operation.
-fn to_unknown(p: Pairing, code: u32) -> Reply
-    ensures { result ≡ unknown_reply p code }
+// What `pair` and `augment` answer: no value, and the next pairing, or the same one.
+fn next_reply(outcome: Result<Pairing, Refused>) -> Reply
+    ensures { result ≡ next_reply outcome }
+{
+    match outcome {
+        Ok(pairing) => answer(Ok(0), pairing),
+        Err(refused) => answer(Err(refused.refusal), refused.pairing),
+    }
+}
+
+// What a code is answered that names no operation.
+fn unknown_reply(pairing: Pairing, unknown: UnknownCode) -> Reply
+    ensures { result ≡ unknown_reply pairing unknown.0 }
 {
     Reply {
         told: Told {
             no: NONE,
-            a: code as u64,
+            a: u64::from(unknown.0),
             b: 0,
         },
         value: 0,
-        pairing: p,
+        pairing,
     }
 }
 
@@ -124,23 +107,13 @@ fn to_unknown(p: Pairing, code: u32) -> Reply
 pub fn reply_to(p: Pairing, code: u32, ids: &[u32]) -> Reply
     ensures { result ≡ reply_to p code ids.now }
 {
-    if code == ORDER {
-        return to_order(p);
+    match Kind::try_from(code) {
+        Ok(Kind::Order) => answer(p.order().map(u64::from), p),
+        Ok(Kind::HasNode) => answer(p.has_node(number_at(ids, 0)).map(u64::from), p),
+        Ok(Kind::Pair) => next_reply(p.pair(number_at(ids, 0), number_at(ids, 1))),
+        Ok(Kind::Edges) => answer(p.edges().map(|edges| edges.as_slice().len() as u64), p),
+        Ok(Kind::Augment) => next_reply(p.augment(ids)),
+        Ok(Kind::Mate) => answer(p.mate(number_at(ids, 0)).map(u64::from), p),
+        Err(unknown) => unknown_reply(p, unknown),
     }
-    if code == HAS_NODE {
-        return to_has_node(p, number_at(ids, 0));
-    }
-    if code == PAIR {
-        return to_next(p.pair(number_at(ids, 0), number_at(ids, 1)));
-    }
-    if code == EDGES {
-        return to_edges(p);
-    }
-    if code == AUGMENT {
-        return to_next(p.augment(ids));
-    }
-    if code == MATE {
-        return to_mate(p, number_at(ids, 0));
-    }
-    to_unknown(p, code)
 }

@@ -4,11 +4,10 @@
 // written by itself in rust/sheets, and not from a run of this program.
 #![tactic(auto)]
 
-use limits::{NONE, Told};
+use limits::{NONE, Told, tell};
 use printing::{field, number, write};
 use samples::{
-    LARGE, front, is_told, line_end, number_from, place_of, put_all, put_entry, put_numbers,
-    sheet_length,
+    LARGE, front, is_told, number_from, place_of, put_all, put_entry, put_numbers, sheet_length,
 };
 use std::io;
 use std::io::{BufWriter, Read, Write};
@@ -19,14 +18,14 @@ const BYTES: u64 = 65536;
 
 // The reply to a sheet.
 fn told(s: &[u8]) -> Told {
-    replies::tell(sheet::check(s))
+    tell(sheet::check(s))
 }
 
 // Writes the reply to a sheet.
 fn answer<W: Write>(out: &mut W, s: &[u8]) -> io::Result<()> {
     let t = told(s);
     write(out, b":")?;
-    number(out, t.no as u64)?;
+    number(out, u64::from(t.no))?;
     number(out, t.a)?;
     number(out, t.b)
 }
@@ -47,7 +46,7 @@ fn given<W: Write>(out: &mut W, line: &[u8], at: usize) -> io::Result<()> {
 // The reply to the sheet in which all of n routes are joined, and the entry total that the sheet itself says.
 fn unchanged<W: Write>(out: &mut W, s: &[u8; LARGE], n: u32, total: u32) -> io::Result<()> {
     answer_in(out, s, sheet_length(n, total))?;
-    field(out, b" entries ", word_at(s, n as usize + 1) as u64)
+    field(out, b" entries ", u64::from(word_at(s, n as usize + 1)))
 }
 
 // The reply to such a sheet with this total, and with a route put as entry number e: one of its own, or one more at the end
@@ -85,12 +84,11 @@ fn joined<W: Write>(out: &mut W, line: &[u8], at: usize) -> io::Result<()> {
 
 // Writes the line of a sheet.
 fn case<W: Write>(out: &mut W, line: &[u8]) -> io::Result<()> {
-    let colon = place_of(line, b':');
-    if colon < line.len() {
+    if let Some(colon) = place_of(line, b':') {
         write(out, front(line, colon))?;
         given(out, line, colon)?;
     } else {
-        let sign = place_of(line, b';');
+        let sign = place_of(line, b';').unwrap_or(line.len());
         write(out, front(line, sign))?;
         joined(out, line, sign)?;
     }
@@ -99,14 +97,10 @@ fn case<W: Write>(out: &mut W, line: &[u8]) -> io::Result<()> {
 
 // All sheets, in turn.
 fn cases<W: Write>(out: &mut W, text: &[u8]) -> io::Result<()> {
-    let mut at = 0;
-    while at < text.len() {
-        let end = line_end(text, at);
-        let line = &text[at..end];
+    for line in text.split(|b| *b == b'\n') {
         if is_told(line) {
             case(out, line)?;
         }
-        at = end + 1;
     }
     Ok(())
 }

@@ -10,9 +10,9 @@ ghost use Rattle.theory.specs.Search.Searched.{mark};
 ghost use Rattle.words.specs.Words.{bytes_to};
 ghost use Rattle.buffers.specs.Held.{partners_of, size_of};
 
-use counts::plus;
-use limits::{NONE, ROUTES};
+use limits::ROUTES;
 use rows::order;
+use std::array;
 use tables::{INNER, at};
 use words::{put_word, word_at};
 
@@ -20,23 +20,14 @@ use words::{put_word, word_at};
 pub fn load(pairing: &[u8]) -> [u32; ROUTES]
     ensures { result ≡ partners_of pairing.now }
 {
-    let mut p = [NONE; ROUTES];
-    let mut v = 0;
-    while v < ROUTES {
-        p[v] = word_at(pairing, v);
-        v += 1;
-    }
-    p
+    array::from_fn(|v| word_at(pairing, v))
 }
 
 // Whether v is the lower route of a pair with w.
 fn leads(n: u32, v: u32, w: u32) -> bool
     ensures { result ≡ (ltb w n && ltb v w) }
 {
-    if w < n {
-        return v < w;
-    }
-    false
+    w < n && v < w
 }
 
 // The size of the pairing.
@@ -44,14 +35,9 @@ pub fn pairs_of(s: &[u8], pairing: &[u8]) -> u32
     ensures { result ≡ size_of s.now pairing.now }
 {
     let n = order(s);
-    let mut k = 0;
-    let mut v = 0;
-    while v < n {
-        let w = word_at(pairing, v as usize);
-        k = plus(k, leads(n, v, w));
-        v += 1;
-    }
-    k
+    (0..n)
+        .filter(|v| leads(n, *v, word_at(pairing, *v as usize)))
+        .count() as u32
 }
 
 // The partners of n routes written out, four bytes each.
@@ -59,21 +45,16 @@ pub fn save(n: u32, p: &[u32; ROUTES], pairing: &mut [u8])
     requires { length pairing.old ≡ 4 * n }
     ensures { pairing.new ≡ bytes_to (cell routes p.now) n }
 {
-    let mut v = 0;
-    while v < n {
+    for v in 0..n {
         put_word(pairing, v as usize, at(p, v));
-        v += 1;
     }
 }
 
-// 1 for an inner route.
+// The byte of a route in the witness: 1 for an inner one.
 fn mark_at(label: &[u32; ROUTES], v: u32) -> u8
     ensures { result ≡ mark (cell routes label.now v) }
 {
-    if at(label, v) == INNER {
-        return 1;
-    }
-    0
+    u8::from(at(label, v) == INNER)
 }
 
 // The marks of n routes written out.
@@ -81,9 +62,7 @@ pub fn save_marks(n: u32, label: &[u32; ROUTES], witness: &mut [u8])
     requires { length witness.old ≡ n }
     ensures { witness.new ≡ map (λ v. mark (cell routes label.now v)) (run 0 n) }
 {
-    let mut v = 0;
-    while v < n {
+    for v in 0..n {
         witness[v as usize] = mark_at(label, v);
-        v += 1;
     }
 }

@@ -5,18 +5,15 @@ ghost use Rattle.std.specs.Prelude.{◌≡◌};
 ghost use Rattle.graphs.specs.Pairing.{unpaired};
 ghost use Rattle.rows.specs.Sheet.{graph_of};
 ghost use Rattle.causes.specs.Given.{mate_of};
-ghost use Rattle.causes.specs.Cause.{cause_of, wrong, first_wrong};
+ghost use Rattle.causes.specs.Cause.{cause_of, first_wrong};
 
-use counts::plus;
 use limits::NONE;
 use rows::{order, place, row};
 use words::word_at;
 
-// What is wrong with a partner, in the order in which it is tried.
+// What can be wrong with a partner, in the order in which it is tried.
 #[derive(Clone, Copy)]
 pub enum Cause {
-    // nothing: none, or a neighbour that names the route back
-    Sound,
     // neither none nor below n
     NoRoute,
     // the route itself
@@ -27,56 +24,36 @@ pub enum Cause {
     OneSided,
 }
 
-// What is wrong with the partner of v.
-fn cause_at(s: &[u8], pairing: &[u8], v: u32) -> Cause
+// What is wrong with the partner of v. Nothing is where it has none, or a neighbour that names it back.
+#[tactic(auto, using(crate::proofs::Causes::neighbour), unfolding(crate::specs::Cause::cause_of))]
+fn cause_at(s: &[u8], pairing: &[u8], v: u32) -> Option<Cause>
     ensures { result ≡ cause_of (graph_of s.now) (mate_of pairing.now) v }
 {
     let w = word_at(pairing, v as usize);
     if w == NONE {
-        return Cause::Sound;
+        return None;
     }
     if order(s) <= w {
-        return Cause::NoRoute;
+        return Some(Cause::NoRoute);
     }
     if w == v {
-        return Cause::Itself;
+        return Some(Cause::Itself);
     }
     let r = row(s, v);
-    if r.len() / 4 <= place(r, w) {
-        return Cause::Stranger;
+    if place(r, w).is_none() {
+        return Some(Cause::Stranger);
     }
     if word_at(pairing, w as usize) == v {
-        return Cause::Sound;
+        return None;
     }
-    Cause::OneSided
+    Some(Cause::OneSided)
 }
 
-// Whether something is wrong.
-fn is_wrong(c: Cause) -> bool
-    ensures { result ≡ wrong c }
-{
-    match c {
-        Cause::Sound => false,
-        Cause::NoRoute => true,
-        Cause::Itself => true,
-        Cause::Stranger => true,
-        Cause::OneSided => true,
-    }
-}
-
-// The lowest route with a wrong partner, or n.
-pub fn first_wrong(s: &[u8], pairing: &[u8]) -> u32
+// The lowest route with a wrong partner.
+pub fn first_wrong(s: &[u8], pairing: &[u8]) -> Option<u32>
     ensures { result ≡ first_wrong (graph_of s.now) (mate_of pairing.now) }
 {
-    let n = order(s);
-    let mut v = 0;
-    while v < n {
-        if is_wrong(cause_at(s, pairing, v)) {
-            return v;
-        }
-        v += 1;
-    }
-    n
+    (0..order(s)).find(|v| cause_at(s, pairing, *v).is_some())
 }
 
 // How many routes have no partner.
@@ -84,11 +61,7 @@ pub fn unpaired_routes(s: &[u8], pairing: &[u8]) -> u32
     ensures { result ≡ unpaired (graph_of s.now) (mate_of pairing.now) }
 {
     let n = order(s);
-    let mut k = 0;
-    let mut v = 0;
-    while v < n {
-        k = plus(k, n <= word_at(pairing, v as usize));
-        v += 1;
-    }
-    k
+    (0..n)
+        .filter(|v| n <= word_at(pairing, *v as usize))
+        .count() as u32
 }

@@ -5,10 +5,9 @@ use Rattle.std.specs.Prelude.{ℕ, ◌≡◌, ◌↔◌, List, [], ◌∷◌, le
 use Rattle.longs.specs.Longs.{longs_of}
 use Rattle.rows.specs.Sheet.{graph_of}
 use Rattle.causes.specs.Given.{mate_of}
-use Rattle.verdicts.specs.Verdict.{told_of}
+use Rattle.verdicts.specs.Verdict.{Verdict, told_of}
 use Rattle.witness.specs.Verdict.{check_of}
 use Rattle.witness.specs.Promise.{Shown, Maximum}
-use Rattle.verdicts.specs.declared.Verdict.{Verdict}
 
 -- an answer buffer of another length than it should have: the result is 9, and nothing is written
 pub record Unanswered (before after : List ℕ) (r : ℕ) : Type 0 where

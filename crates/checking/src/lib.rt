@@ -6,7 +6,7 @@
 ghost use Rattle.checking.specs.Calls.{CheckCall};
 
 use answers::put_told;
-use verdicts::tell;
+use limits::tell;
 use witness::check;
 
 // Whether the pairing is shown to be maximum by the witness.

@@ -5,15 +5,15 @@ use mathlib.Core.Logic.{◌≢◌}
 use mathlib.Core.Bool.{true, not, ◌&&◌}
 use mathlib.Core.List.{List}
 use native.Mathlib.Omega.{arith}
+use Rattle.std.specs.Prelude.{is_err}
 use lib.ListN.{length}
 use lib.Dec.{eqb, ltb}
 use borrow.Author.Tests.{eqb-true, eqb-false, eq-eqb, ne_eqb, ltb-true, ltb-false, lt-ltb, not-true, not-false}
 use Rattle.limits.specs.Limits.{routes, none}
 use Rattle.graphs.proofs.Count.{cases, clash, tests, or_cases, or_right, least_first, least-passes}
 use Rattle.mates.specs.Partners.{mate_of, count_of, fits, Sound}
-use Rattle.refusals.specs.Reply.{refuses}
+use Rattle.limits.specs.Answer.{accepted}
 use Rattle.checks.specs.Checks.{misfit, pairing_reply, id_reply, pair_reply}
-use Rattle.refusals.specs.declared.Refusal.TheVariants.{Accepted}
 
 -- ---- 10
 
@@ -48,19 +48,19 @@ unfolding misfit
 no-misfit ps h i l = not-false (fits ps i) (least_first routes (λ j. not (fits ps j)) i (omega arith))
 
 -- 10 is not given: the list is sound and the kept count right
-pub pairing-accepted : (ps : List ℕ) (n : ℕ) → length ps ≡ routes → pairing_reply ps n ≡ Accepted → Sound ps × (n ≡ count_of ps)
+pub pairing-accepted : (ps : List ℕ) (n : ℕ) → length ps ≡ routes → pairing_reply ps n ≡ accepted → Sound ps × (n ≡ count_of ps)
 unfolding pairing_reply
 pairing-accepted ps n e h = cases (ltb (misfit ps) routes)
-    (λ t. clash true refl (ap refuses (rw t at h)))
+    (λ t. clash true refl (ap is_err (rw t at h)))
     (λ t. (
       all_fit ps e (no-misfit ps (ltb-false (misfit ps) routes t)),
       cases (eqb n (count_of ps))
           (eqb-true n (count_of ps))
-          (λ u. clash true refl (ap refuses (rw (t, u) at h))),
+          (λ u. clash true refl (ap is_err (rw (t, u) at h))),
     ))
 
 -- and it is not given to such a list
-pub sound-accepted : (ps : List ℕ) → Sound ps → pairing_reply ps (count_of ps) ≡ Accepted
+pub sound-accepted : (ps : List ℕ) → Sound ps → pairing_reply ps (count_of ps) ≡ accepted
 unfolding pairing_reply misfit
 sound-accepted ps s = cases (ltb (misfit ps) routes)
     (λ t.
@@ -71,16 +71,16 @@ sound-accepted ps s = cases (ltb (misfit ps) routes)
 -- ---- 14 and 15
 
 -- neither 14 nor 15 is given to two ids: they are ids, and not the same
-pub pair-accepted : (a b : ℕ) → pair_reply a b ≡ Accepted → (a < routes) × (b < routes) × (a ≢ b)
+pub pair-accepted : (a b : ℕ) → pair_reply a b ≡ accepted → (a < routes) × (b < routes) × (a ≢ b)
 unfolding pair_reply id_reply
 pair-accepted a b h = cases (ltb a routes)
     (λ t. cases (ltb b routes)
     (λ u. cases (eqb a b)
-    (λ v. clash true refl (ap refuses (rw (t, u, v) at h)))
+    (λ v. clash true refl (ap is_err (rw (t, u, v) at h)))
     (λ v. (ltb-true a routes t, ltb-true b routes u, eqb-false a b v)))
-    (λ u. clash true refl (ap refuses (rw (t, u) at h))))
-    (λ t. clash true refl (ap refuses (rw t at h)))
+    (λ u. clash true refl (ap is_err (rw (t, u) at h))))
+    (λ t. clash true refl (ap is_err (rw t at h)))
 
-pub accepted-pair : (a b : ℕ) → a < routes → b < routes → a ≢ b → pair_reply a b ≡ Accepted
+pub accepted-pair : (a b : ℕ) → a < routes → b < routes → a ≢ b → pair_reply a b ≡ accepted
 unfolding pair_reply id_reply
 accepted-pair a b la lb ne = rw (lt-ltb a routes la, lt-ltb b routes lb, ne_eqb a b ne) refl

@@ -5,96 +5,67 @@
 
 ghost use Rattle.std.specs.Prelude.{◌≡◌};
 ghost use Rattle.mates.specs.Partners.{fits};
-ghost use Rattle.checks.specs.Checks.{misfit, pairing_reply, id_reply, pair_reply, mate_reply};
+ghost use Rattle.checks.specs.Checks.{pairing_reply, id_reply, pair_reply, mate_reply};
 
 use limits::{NONE, ROUTES};
 use mates::{IDS, is_paired, paired_ids, partner_of};
-use refusals::Refusal;
+use refusals::{Refusal, Reply};
 
 // Whether the partner of an id is none, or another id that names it back.
 fn fits(t: &[u32; ROUTES], id: u32) -> bool
     ensures { result ≡ fits t.now id }
 {
     let m = partner_of(t, id);
-    if m == NONE {
-        return true;
-    }
-    if IDS <= m {
-        return false;
-    }
-    if m == id {
-        return false;
-    }
-    partner_of(t, m) == id
-}
-
-// The lowest id whose partner does not fit, or the limit.
-fn misfit(t: &[u32; ROUTES]) -> u32
-    ensures { result ≡ misfit t.now }
-{
-    let mut i = 0;
-    while i < IDS {
-        if !fits(t, i) {
-            return i;
-        }
-        i += 1;
-    }
-    IDS
+    m == NONE || (m < IDS && m != id && partner_of(t, m) == id)
 }
 
 // 10, which every operation tries first.
-pub fn pairing_refusal(t: &[u32; ROUTES], count: u32) -> Refusal
+pub fn pairing_refusal(t: &[u32; ROUTES], count: u32) -> Reply
     ensures { result ≡ pairing_reply t.now count }
 {
-    let id = misfit(t);
-    if id < IDS {
-        return Refusal::BadPartner {
-            id,
-            value: partner_of(t, id),
-        };
+    for id in 0..IDS {
+        if !fits(t, id) {
+            return Err(Refusal::BadPartner {
+                id,
+                value: partner_of(t, id),
+            });
+        }
     }
-    if count == paired_ids(t) {
-        return Refusal::Accepted;
+    if count != paired_ids(t) {
+        return Err(Refusal::WrongCount { count });
     }
-    Refusal::WrongCount { count }
+    Ok(())
 }
 
 // 14, for the id at a position.
-pub fn id_refusal(position: usize, id: u32) -> Refusal
+pub fn id_refusal(position: usize, id: u32) -> Reply
     ensures { result ≡ id_reply position id }
 {
-    if id < IDS {
-        return Refusal::Accepted;
+    if IDS <= id {
+        return Err(Refusal::NoSuchId { position, id });
     }
-    Refusal::NoSuchId { position, id }
+    Ok(())
 }
 
 // 14 for the first id and for the second, then 15.
-#[tactic(auto, unfolding(crate::specs::Checks::pair_reply, crate::specs::Checks::id_reply))]
-pub fn pair_refusal(a: u32, b: u32) -> Refusal
+pub fn pair_refusal(a: u32, b: u32) -> Reply
     ensures { result ≡ pair_reply a b }
 {
-    if IDS <= a {
-        return Refusal::NoSuchId { position: 0, id: a };
-    }
-    if IDS <= b {
-        return Refusal::NoSuchId { position: 1, id: b };
-    }
+    id_refusal(0, a)?;
+    id_refusal(1, b)?;
     if a == b {
-        return Refusal::SelfPair { position: 0, id: a };
+        return Err(Refusal::SelfPair { position: 0, id: a });
     }
-    Refusal::Accepted
+    Ok(())
 }
 
 // 14, then 16.
-pub fn mate_refusal(t: &[u32; ROUTES], id: u32) -> Refusal
+pub fn mate_refusal(t: &[u32; ROUTES], id: u32) -> Reply
     ensures { result ≡ mate_reply t.now id }
 {
-    if IDS <= id {
-        return Refusal::NoSuchId { position: 0, id };
+    id_refusal(0, id)?;
+    if !is_paired(t, id) {
+        return Err(Refusal::Unpaired { id });
     }
-    if is_paired(t, id) {
-        return Refusal::Accepted;
-    }
-    Refusal::Unpaired { id }
+    Ok(())
 }

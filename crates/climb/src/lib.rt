@@ -14,12 +14,10 @@ use search::searched;
 pub fn climb(s: &[u8], p: &mut [u32; ROUTES], label: &mut [u32; ROUTES], budget: u32) -> bool
     ensures { Climbs routes (graph_of s.now) p.old p.new label.new budget result }
 {
-    let mut k = 0;
-    while k < budget {
+    for _ in 0..budget {
         if !searched(s, p, label) {
             return true;
         }
-        k += 1;
     }
     let mut copy = *p;
     !searched(s, &mut copy, label)

@@ -3,10 +3,8 @@ use Prim.Native.Nat.{ℕ}
 use mathlib.Core.Path.{◌≡◌, ap, ◌∙◌}
 use Rattle.limits.specs.Limits.{routes}
 use Rattle.theory.specs.Search.Tables.{Tables}
-use Rattle.theory.specs.Search.Rings.{Way, left, right, stride, bridge, linked, absorb, contract}
-use Rattle.tables.specs.Shapes.{tree}
+use Rattle.theory.specs.Search.Rings.{Way, linked, absorb, contract}
 
-pub contracted : (s : Tables) (v w : ℕ) (z : Way) (st : Tables) → z ≡ linked routes (tree s.mate s.parent s.top s.base s.rank s.rings s.ids) v w → st ≡ absorb routes s v z
-    → st ≡ contract routes s v w
-unfolding contract linked stride left right bridge
+pub contracted : (s : Tables) (v w : ℕ) (z : Way) (st : Tables) → z ≡ linked routes s v w → st ≡ absorb routes s v z → st ≡ contract routes s v w
+unfolding contract
 contracted s v w z st a b = b ∙ ap (absorb routes s v) a

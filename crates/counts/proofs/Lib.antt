@@ -1,2 +1,2 @@
--- For the crates above: Counted (a loop that counts, turn by turn).
+-- For the crates above: Counted (what a chain that counts comes to).
 pub mod Counted

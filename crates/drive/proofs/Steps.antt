@@ -1,86 +1,67 @@
--- Laws of a list of operations: what one of them leaves and says, and what is left to do after it. Assumes nothing.
-use Prim.Native.Nat.{ℕ, zero, suc, ◌+◌, ◌-◌, ◌≤◌, ◌<◌}
+-- Laws of a list of operations: what comes out in the end, from what the first n of them left. Assumes nothing.
+use Prim.Native.Nat.{ℕ, zero, suc, ◌+◌, ◌≤◌, ◌<◌}
 use mathlib.Core.Path.{◌≡◌, refl, sym, ap, ◌∙◌}
 use mathlib.Core.List.{List, [], ◌∷◌, ◌++◌}
 use native.Mathlib.Omega.{arith}
-use lib.ListN.{length, get_or}
-use lib.Seq.{sets}
-use borrow.Author.Tests.{lt-ltb, le-ltb}
+use native.Mathlib.Numerals.{add-one}
+use lib.ListN.{length, get_or, drop, drop_of_length-le}
+use lib.Seq.{sets, drop-cons}
+use lib.Dec.{ltb}
+use Rattle.graphs.proofs.Count.{cases}
 use Rattle.limits.specs.Limits.{none}
 use Rattle.pairing.specs.declared.Pairing.{Pairing}
-use Rattle.lent.specs.Operations.{Operation, end_of, operation_at, operations_from, operations}
-use Rattle.lent.proofs.Ends.{end_after}
-use Rattle.asked.specs.declared.Reply.{Reply}
-use Rattle.asked.specs.Replies.{reply_to, behind, numbers_of}
+use Rattle.std.specs.Iterator.{YieldsFirstBy}
+use Rattle.std.proofs.lemmas.Iterator.{YieldsList}
+use Rattle.std.proofs.lemmas.Iterator.Consumers.{YieldsList-from_first}
+use Rattle.lent.specs.Given.{given, left}
+use Rattle.lent.specs.declared.Operations.{Operations}
+use Rattle.lent.specs.Operations.{Operation, end_of, operations_from, operations}
 use Rattle.laid.specs.Answers.{Laid, laid, lay}
 use Rattle.laid.proofs.Laying.{lay-append, lay-sets}
 use Rattle.drive.specs.Drive.{next_of, said_of, performed, said}
 
--- ---- one operation
-
-module _ (p : Pairing) (o : Operation) (code : ℕ) (ids : List ℕ) (r : Reply) (a : code ≡ o.code) (b : ids ≡ o.ids) (e : r ≡ reply_to p code ids) where
-  pub next-is : r.pairing ≡ next_of p o
-  next-is = rw (e, a, b) refl
-
-  pub said-is : (k l m : Laid) → l ≡ lay k (numbers_of r) → m ≡ lay l (behind p code) → m ≡ lay k (said_of p o)
-  said-is k l m f g =
-      let all : m ≡ lay (lay k (numbers_of r)) (behind p code) = g ∙ ap (λ (x : Laid). lay x (behind p code)) f in
-      all ∙ sym (lay-append k (numbers_of r) (behind p code)) ∙ rw (e, a, b) refl
-
--- ---- what is left to do at a place, where n operations are done
-
-abbrev pub left : List ℕ → ℕ → ℕ → List Operation
-left ops n at = operations_from (length ops - n) at ops
-
-left-none : (f at : ℕ) (ops : List ℕ) → length ops ≤ at → operations_from f at ops ≡ []
+-- there are no more operations than numbers
+few-from : (f at : ℕ) (ops : List ℕ) → length (operations_from f at ops) ≤ f
 unfolding operations_from
-left-none zero at ops h = refl
-left-none (suc f) at ops h = rw (le-ltb at (length ops) h) refl
+few-from zero at ops = omega arith
+few-from (suc f) at ops = cases (ltb at (length ops))
+    (λ t. let h = few-from f (end_of (length ops) at (get_or ops (at + 1) none)) ops in rw t (omega arith))
+    (λ t. rw t (omega arith))
 
-left-some : (ops : List ℕ) (n at : ℕ) → n ≤ at → at < length ops
-    → left ops n at ≡ operation_at ops at ∷ left ops (n + 1) (end_of (length ops) at (get_or ops (at + 1) none))
-unfolding operations_from
-left-some ops n at h l =
-    let z : length ops - n ≡ suc (length ops - (n + 1)) = omega arith in
-    rw (z, operations_from, lt-ltb at (length ops) l) refl
-
--- the pairing, the answers, and the number of operations that come out in the end, from what is left to do
-pub record Leads (ops : List ℕ) (p₀ : Pairing) (l₀ : Laid) (p : Pairing) (l : Laid) (n at : ℕ) : Type 0 where
-  pub behind : n ≤ at
-  pub pairing : performed p (left ops n at) ≡ performed p₀ (operations ops)
-  pub counted : n + length (left ops n at) ≡ length (operations ops)
-  pub answers : lay l (said p (left ops n at)) ≡ lay l₀ (said p₀ (operations ops))
-
-pub leads-start : (ops : List ℕ) (p : Pairing) (l : Laid) → Leads ops p l p l 0 0
+pub few : (ops : List ℕ) → length (operations ops) ≤ length ops
 unfolding operations
-leads-start ops p l =
-    let z : length ops - 0 ≡ length ops = omega arith in
-    record { behind = omega arith; pairing = rw z refl; counted = rw z (omega arith); answers = rw z refl }
+few ops = few-from (length ops) 0 ops
 
-module _ (ops : List ℕ) (p₀ : Pairing) (l₀ : Laid) (p : Pairing) (l : Laid) (n at : ℕ) (h : Leads ops p₀ l₀ p l n at) where
-  pub leads-next : (p' : Pairing) (l' : Laid) (m at' : ℕ) → at < length ops → p' ≡ next_of p (operation_at ops at) → l' ≡ lay l (said_of p (operation_at ops at))
-      → m ≡ get_or ops (at + 1) none → at' ≡ end_of (length ops) at m → Leads ops p₀ l₀ p' l' (n + 1) at'
+-- a loop over the operations of a list goes over all of them
+pub come-all : {s t : Operations} (ops : List ℕ) → t ≡ s → left s ≡ operations ops → YieldsList (YieldsFirstBy given left) given t (operations ops)
+come-all ops e f = YieldsList-from_first given left (operations ops) (ap left e ∙ f)
+
+-- the pairing and the answers that come out in the end, from what the first n operations left
+pub record Leads (os : List Operation) (p₀ : Pairing) (l₀ : Laid) (p : Pairing) (l : Laid) (n : ℕ) : Type 0 where
+  pub pairing : performed p (drop n os) ≡ performed p₀ os
+  pub answers : lay l (said p (drop n os)) ≡ lay l₀ (said p₀ os)
+
+pub leads-start : (os : List Operation) (p : Pairing) (l : Laid) → Leads os p l p l 0
+leads-start os p l = record { pairing = refl; answers = refl }
+
+module _ (os : List Operation) (p₀ : Pairing) (l₀ : Laid) (p : Pairing) (l : Laid) (n : ℕ) (h : Leads os p₀ l₀ p l n) where
+  pub leads-next : (o : Operation) (p' : Pairing) (l' : Laid) → n < length os → o ≡ get_or os n o → p' ≡ next_of p o → l' ≡ lay l (said_of p o)
+      → Leads os p₀ l₀ p' l' (n + 1)
   unfolding performed said
-  leads-next p' l' m at' b e f g i =
-      let some : left ops n at ≡ operation_at ops at ∷ left ops (n + 1) at' = left-some ops n at h.behind b ∙ rw (i, g) refl in
-      let after = end_after (length ops) at m b in
-      let one : performed (next_of p (operation_at ops at)) (left ops (n + 1) at') ≡ performed p₀ (operations ops) = rw some at h.pairing in
-      let two : n + suc (length (left ops (n + 1) at')) ≡ length (operations ops) = rw some at h.counted in
-      let three : lay l (said_of p (operation_at ops at) ++ said (next_of p (operation_at ops at)) (left ops (n + 1) at')) ≡ lay l₀ (said p₀ (operations ops))
-      = rw some at h.answers in
+  leads-next o p' l' b g e f =
+      let some : drop n os ≡ o ∷ drop (n + 1) os = drop-cons os n o b ∙ rw (← g, add-one) refl in
+      let one : performed (next_of p o) (drop (n + 1) os) ≡ performed p₀ os = rw some at h.pairing in
+      let two : lay l (said_of p o ++ said (next_of p o) (drop (n + 1) os)) ≡ lay l₀ (said p₀ os) = rw some at h.answers in
       record {
-        behind = omega (arith, h.behind);
         pairing = rw e one;
-        counted = omega arith;
-        answers = rw (e, f) (sym (lay-append l (said_of p (operation_at ops at)) (said (next_of p (operation_at ops at)) (left ops (n + 1) at'))) ∙ three);
+        answers = rw (e, f) (sym (lay-append l (said_of p o) (said (next_of p o) (drop (n + 1) os))) ∙ two);
       }
 
-  pub leads-end : length ops ≤ at → (p ≡ performed p₀ (operations ops)) × (n ≡ length (operations ops)) × (l ≡ lay l₀ (said p₀ (operations ops)))
+  pub leads-end : n ≡ length os → (p ≡ performed p₀ os) × (l ≡ lay l₀ (said p₀ os))
   unfolding performed said lay
   leads-end b =
-      let none_left : left ops n at ≡ [] = left-none (length ops - n) at ops b in
-      let two : n + 0 ≡ length (operations ops) = rw none_left at h.counted in
-      (rw none_left at h.pairing, omega arith, rw none_left at h.answers)
+      let none_left : drop n os ≡ [] = drop_of_length-le os {i = n} (omega arith) in
+      (rw none_left at h.pairing, rw none_left at h.answers)
 
-pub answers-end : (s t : List ℕ) (i j : ℕ) (xs : List ℕ) → laid s i ≡ lay (laid t j) xs → s ≡ sets t j xs
-answers-end s t i j xs e = ap (λ (l : Laid). l.numbers) e ∙ lay-sets t j xs
+pub answers-end : (s t : List ℕ) (i : ℕ) (xs : List ℕ) → laid s i ≡ lay (laid t 0) xs → s ≡ sets t 0 xs
+answers-end s t i xs e = ap (λ (l : Laid). l.numbers) e ∙ lay-sets t 0 xs

@@ -7,65 +7,31 @@
 ghost use Rattle.std.specs.Prelude.{◌≡◌, length};
 ghost use Rattle.std.proofs.lemmas.List.Edits.{sets};
 ghost use Rattle.lent.specs.State.{pairing_of, put_pairing};
-ghost use Rattle.lent.specs.Operations.{operation_at, operations};
-ghost use Rattle.laid.specs.Answers.{laid, lay};
-ghost use Rattle.drive.specs.Drive.{next_of, said_of, performed, said};
+ghost use Rattle.lent.specs.Operations.{operations};
+ghost use Rattle.laid.specs.Lays.{Lays};
+ghost use Rattle.drive.specs.Drive.{performed, said};
 
 use asked::reply_to;
-use laid::{put_pairs, put_reply};
+use laid::Answers;
+use lent::Operations;
 use lent::state::{read_pairing, write_pairing};
-use lent::{end_of, ids_at, number_at};
 use pairing::Pairing;
 
-// What one operation leaves: the pairing, and the place of the next answer.
-#[derive(Clone, Copy)]
-struct Step {
-    pub pairing: Pairing,
-    pub place: usize,
-}
-
-// What all operations leave: the pairing, and how many operations there were.
-#[derive(Clone, Copy)]
-struct Run {
-    pub pairing: Pairing,
-    pub count: usize,
-}
-
-// The operation at a place of the list.
-fn perform(p: Pairing, ops: &[u32], at: usize, answers: &mut [u64], place: usize) -> Step
-    ensures pairing { result.pairing ≡ next_of p (operation_at ops.now at) }
-    ensures answers { laid answers.new result.place ≡ lay (laid answers.old place) (said_of p (operation_at ops.now at)) }
+// All operations of the list, each on the pairing that the one before it left. What comes out is how many they were.
+fn perform_all(pairing: &mut Pairing, ops: &[u32], answers: &mut Answers<'_>) -> usize
+    ensures counted { result ≡ length (operations ops.now) }
+    ensures pairing { pairing.new ≡ performed pairing.old (operations ops.now) }
+    ensures answers { Lays answers.old answers.new (said pairing.old (operations ops.now)) }
 {
-    let code = number_at(ops, at);
-    let done = reply_to(p, code, ids_at(ops, at));
-    let pairs = put_reply(answers, place, done);
-    let next = put_pairs(answers, pairs, p, code);
-    let pairing = done.pairing;
-    Step {
-        pairing,
-        place: next,
-    }
-}
-
-// All operations of the list, in turn.
-fn perform_all(p: Pairing, ops: &[u32], answers: &mut [u64]) -> Run
-    ensures pairing { result.pairing ≡ performed p (operations ops.now) }
-    ensures counted { result.count ≡ length (operations ops.now) }
-    ensures answers { answers.new ≡ sets answers.old 0 (said p (operations ops.now)) }
-{
-    let len = ops.len();
-    let mut pairing = p;
-    let mut place = 0;
     let mut count = 0;
-    let mut at = 0;
-    while at < len {
-        let step = perform(pairing, ops, at, answers, place);
-        pairing = step.pairing;
-        place = step.place;
+    for operation in Operations::new(ops) {
+        let reply = reply_to(*pairing, operation.code, operation.ids);
+        answers.put_reply(reply);
+        answers.put_pairs(*pairing, operation.code);
+        *pairing = reply.pairing;
         count += 1;
-        at = end_of(len, at, number_at(ops, at + 1));
     }
-    Run { pairing, count }
+    count
 }
 
 // A pairing as bytes, and operations on it: each of them its code, how many ids there are, and the ids. The pairing is
@@ -78,8 +44,9 @@ pub fn drive_pairing(state: &mut [u8], ops: &[u32], answers: &mut [u64]) -> usiz
     ensures pairing { state.new ≡ put_pairing state.old (performed (pairing_of state.old) (operations ops.now)) }
     ensures answers { answers.new ≡ sets answers.old 0 (said (pairing_of state.old) (operations ops.now)) }
 {
-    let p = read_pairing(state);
-    let run = perform_all(p, ops, answers);
-    write_pairing(state, run.pairing);
-    run.count
+    let mut pairing = read_pairing(state);
+    let mut answers = Answers::new(answers);
+    let count = perform_all(&mut pairing, ops, &mut answers);
+    write_pairing(state, pairing);
+    count
 }

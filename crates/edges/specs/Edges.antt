@@ -1,12 +1,9 @@
 -- What is answered about two routes.
-use Rattle.std.specs.Prelude.{ℕ, cond, ltb}
+use Rattle.std.specs.Prelude.{ℕ, Bool, cond, ltb, Result, Ok, Err}
 use Rattle.graphs.specs.Graph.{Graph, joined}
-use Rattle.edges.specs.declared.Edge.{Edge}
-use Rattle.edges.specs.declared.Edge.TheVariants as edge
+use Rattle.rows.specs.Lookup.{unknown}
+use Rattle.rows.specs.declared.UnknownId.{UnknownId}
 
 -- whether w is a neighbour of v; an id that is no route is named, the first before the second
-unfoldable pub edge_of : Graph → ℕ → ℕ → Edge
-edge_of g v w =
-    cond (ltb v g.order)
-    (cond (ltb w g.order) (cond (joined g v w) edge.Joined edge.Apart) (edge.UnknownId w))
-    (edge.UnknownId v)
+unfoldable pub edge_of : Graph → ℕ → ℕ → Result Bool UnknownId
+edge_of g v w = cond (ltb v g.order) (cond (ltb w g.order) (Ok (joined g v w)) (Err (unknown w))) (Err (unknown v))

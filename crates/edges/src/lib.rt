@@ -6,31 +6,18 @@ ghost use Rattle.std.specs.Prelude.{◌≡◌};
 ghost use Rattle.rows.specs.Sheet.{graph_of};
 ghost use Rattle.edges.specs.Edges.{edge_of};
 
-use rows::{place, row};
-use words::word_at;
+use rows::{UnknownId, order, place, row};
 
-// Whether two routes are joined, or the first id that is none.
-#[derive(Clone, Copy)]
-pub enum Edge {
-    Joined,
-    Apart,
-    UnknownId { id: u32 },
-}
-
-// Whether the second id is a neighbour of the first.
-pub fn has_edge(s: &[u8], v: u32, w: u32) -> Edge
+// Whether the second id is a neighbour of the first, or the first of the two that is no route.
+pub fn has_edge(s: &[u8], v: u32, w: u32) -> Result<bool, UnknownId>
     ensures { result ≡ edge_of (graph_of s.now) v w }
 {
-    let n = word_at(s, 0);
+    let n = order(s);
     if n <= v {
-        return Edge::UnknownId { id: v };
+        return Err(UnknownId { id: v });
     }
     if n <= w {
-        return Edge::UnknownId { id: w };
+        return Err(UnknownId { id: w });
     }
-    let r = row(s, v);
-    if place(r, w) < r.len() / 4 {
-        return Edge::Joined;
-    }
-    Edge::Apart
+    Ok(place(row(s, v), w).is_some())
 }

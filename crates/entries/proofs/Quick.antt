@@ -13,9 +13,10 @@ use Rattle.graphs.specs.Graph.{Graph, has, joined}
 use Rattle.graphs.proofs.Count.{cases, same_test, and-false}
 use Rattle.words.specs.Words.{word, numbers, over}
 use Rattle.rows.specs.Sheet.{order, stretch, graph_of}
-use Rattle.replies.specs.Reply.{refuses, first, first_of}
-use Rattle.replies.specs.declared.Reply.{Reply}
-use Rattle.replies.specs.declared.Reply.TheVariants.{Accepted, Loop}
+use Rattle.std.specs.Prelude.{Err, is_err}
+use Rattle.limits.specs.Answer.{accepted, first}
+use Rattle.replies.specs.Reply.{Reply, first_of}
+use Rattle.replies.specs.declared.Refusal.TheVariants.{Loop}
 use Rattle.marks.specs.Marks.{marked, mark, unmarked}
 use Rattle.places.specs.Places.{last_places, unkept}
 use Rattle.one_entry.specs.OneEntry.{quick_entry}
@@ -32,38 +33,38 @@ module _ (marks last : List ℕ) (n v : ℕ) (row : List ℕ) (i : ℕ) where
   abbrev f : ℕ → Reply
   f k = quick_entry marks last n v (get_or (numbers row) k none) k
 
-  module _ (p : first_of i f ≡ Accepted) where
+  module _ (p : first_of i f ≡ accepted) where
     here : (w : ℕ) (r : Reply) → w ≡ word row i → r ≡ quick_entry marks last n v w i → r ≡ f i
     here w r e q = q ∙ ap (λ (x : ℕ). quick_entry marks last n v x i) (e ∙ sym (numbers-at row i))
 
-    pub places-past : (w : ℕ) (r : Reply) → w ≡ word row i → r ≡ quick_entry marks last n v w i → refuses r ≡ false → first_of (i + 1) f ≡ Accepted
+    pub places-past : (w : ℕ) (r : Reply) → w ≡ word row i → r ≡ quick_entry marks last n v w i → is_err r ≡ false → first_of (i + 1) f ≡ accepted
     places-past w r e q h = first_past f i p (rw (← here w r e q) h)
 
-    pub places-at : (w : ℕ) (r : Reply) → w ≡ word row i → r ≡ quick_entry marks last n v w i → refuses r ≡ true → i < length row / 4
+    pub places-at : (w : ℕ) (r : Reply) → w ≡ word row i → r ≡ quick_entry marks last n v w i → is_err r ≡ true → i < length row / 4
         → r ≡ quick_row marks last n v (numbers row)
     unfolding quick_row
     places-at w r e q h l =
         here w r e q ∙ sym (first-at f i (length (numbers row)) (omega (arith, numbers-length row)) p (rw (← here w r e q) h))
 
-    pub places-end : i ≤ length row / 4 → length row / 4 ≤ i → Accepted ≡ quick_row marks last n v (numbers row)
+    pub places-end : i ≤ length row / 4 → length row / 4 ≤ i → accepted ≡ quick_row marks last n v (numbers row)
     unfolding quick_row
     places-end h l = sym (first-end f i (length (numbers row)) (omega (arith, numbers-length row)) (omega (arith, numbers-length row)) p)
 
 module _ (marks : List ℕ) where
   abbrev h : ℕ → Reply
-  h w = cond (marked marks w w) (Loop w) Accepted
+  h w = cond (marked marks w w) (Err (Loop w)) accepted
 
-  pub loop-past : (v : ℕ) → first_of v h ≡ Accepted → (b : Bool) → b ≡ marked marks v v → b ≡ false → first_of (v + 1) h ≡ Accepted
+  pub loop-past : (v : ℕ) → first_of v h ≡ accepted → (b : Bool) → b ≡ marked marks v v → b ≡ false → first_of (v + 1) h ≡ accepted
   loop-past v p b e t = first_past h v p (rw (← e, t))
 
-  module _ (n v : ℕ) (p : first_of v h ≡ Accepted) where
-    pub loop-at : (b : Bool) → b ≡ marked marks v v → b ≡ true → v < n → Loop v ≡ quick_loop marks n
+  module _ (n v : ℕ) (p : first_of v h ≡ accepted) where
+    pub loop-at : (b : Bool) → b ≡ marked marks v v → b ≡ true → v < n → Err (Loop v) ≡ quick_loop marks n
     unfolding quick_loop
     loop-at b e t l =
         let m : marked marks v v ≡ true = sym e ∙ t in
         sym (first-at h v n l p (rw m) ∙ rw m)
 
-    pub loop-end : v ≤ n → n ≤ v → Accepted ≡ quick_loop marks n
+    pub loop-end : v ≤ n → n ≤ v → accepted ≡ quick_loop marks n
     unfolding quick_loop
     loop-end k l = sym (first-end h v n k l p)
 
@@ -86,20 +87,20 @@ module _ (marks s : List ℕ) where
   abbrev q : ℕ → Reply
   q v = quick_row marks (last_places unkept ((graph_of s).row v)) (order s) v ((graph_of s).row v)
 
-  module _ (n v : ℕ) (en : n ≡ order s) (p : first_of v q ≡ Accepted) where
+  module _ (n v : ℕ) (en : n ≡ order s) (p : first_of v q ≡ accepted) where
     on : (row : List ℕ) (r : Reply) → row ≡ stretch s v → r ≡ quick_row marks (last_places unkept (numbers row)) n v (numbers row) → r ≡ q v
     on row r e h = h ∙ rw (e, en)
 
     pub marks-past : (row : List ℕ) (r : Reply) → row ≡ stretch s v → r ≡ quick_row marks (last_places unkept (numbers row)) n v (numbers row)
-        → refuses r ≡ false → first_of (v + 1) q ≡ Accepted
+        → is_err r ≡ false → first_of (v + 1) q ≡ accepted
     marks-past row r e h t = first_past q v p (rw (← on row r e h) t)
 
     pub marks-at : (row : List ℕ) (r : Reply) → row ≡ stretch s v → r ≡ quick_row marks (last_places unkept (numbers row)) n v (numbers row)
-        → refuses r ≡ true → v < n → r ≡ quick_rows marks (graph_of s)
+        → is_err r ≡ true → v < n → r ≡ quick_rows marks (graph_of s)
     unfolding quick_rows
     marks-at row r e h t l = on row r e h ∙ sym (first-at q v (order s) (rw en at l) p (rw (← on row r e h) t))
 
-    pub marks-end : v ≤ n → n ≤ v → Accepted ≡ quick_rows marks (graph_of s)
+    pub marks-end : v ≤ n → n ≤ v → accepted ≡ quick_rows marks (graph_of s)
     unfolding quick_rows
     marks-end h l = sym (first-end q v (order s) (rw en at h) (rw en at l) p)
 
@@ -172,14 +173,14 @@ module _ (g : Graph) (n : g.order ≤ routes) where
 
   pub quick-loop : quick_loop (mark_rows g g.order unmarked) g.order ≡ loop_reply g
   unfolding quick_loop loop_reply
-  quick-loop = first-same _ _ g.order (λ v lv. ap (λ (b : Bool). cond b (Loop v) Accepted) (marks-say g v v n lv (omega arith)))
+  quick-loop = first-same _ _ g.order (λ v lv. ap (λ (b : Bool). cond b (Err (Loop v)) accepted) (marks-say g v v n lv (omega arith)))
 
 module _ (s t : List ℕ) (r : Reply) (n : order s ≤ routes) (et : t ≡ mark_rows (graph_of s) (order s) unmarked) (er : r ≡ quick_rows t (graph_of s)) where
   rows_are : r ≡ rows_reply (graph_of s)
   rows_are = er ∙ rw et (quick-rows (graph_of s) n)
 
-  pub rows-refused : refuses r ≡ true → r ≡ first (rows_reply (graph_of s)) (loop_reply (graph_of s))
+  pub rows-refused : is_err r ≡ true → r ≡ first (rows_reply (graph_of s)) (loop_reply (graph_of s))
   rows-refused h = rw (← rows_are, h)
 
-  pub rows-fine : refuses r ≡ false → (k : ℕ) (l : Reply) → k ≡ order s → l ≡ quick_loop t k → l ≡ first (rows_reply (graph_of s)) (loop_reply (graph_of s))
+  pub rows-fine : is_err r ≡ false → (k : ℕ) (l : Reply) → k ≡ order s → l ≡ quick_loop t k → l ≡ first (rows_reply (graph_of s)) (loop_reply (graph_of s))
   rows-fine h k l ek el = el ∙ rw (ek, et, quick-loop (graph_of s) n) (rw (← rows_are, h))

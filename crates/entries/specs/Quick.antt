@@ -1,12 +1,12 @@
 -- How the reader works, and nothing that has to be believed: the marks of all rows; and the checks of the rows by this table and by that of the last
 -- places.
-use Rattle.std.specs.Prelude.{ℕ, zero, suc, cond, List, length, get_or}
+use Rattle.std.specs.Prelude.{ℕ, zero, suc, cond, List, length, get_or, Err}
 use Rattle.limits.specs.Limits.{none}
 use Rattle.graphs.specs.Graph.{Graph}
 use Rattle.words.specs.Words.{over}
-use Rattle.replies.specs.Reply.{first_of}
-use Rattle.replies.specs.declared.Reply.{Reply}
-use Rattle.replies.specs.declared.Reply.TheVariants.{Accepted, Loop}
+use Rattle.limits.specs.Answer.{accepted}
+use Rattle.replies.specs.Reply.{Reply, first_of}
+use Rattle.replies.specs.declared.Refusal.TheVariants.{Loop}
 use Rattle.marks.specs.Marks.{marked, mark}
 use Rattle.places.specs.Places.{last_places, unkept}
 use Rattle.one_entry.specs.OneEntry.{quick_entry}
@@ -30,4 +30,4 @@ quick_rows marks g = first_of g.order (λ v. quick_row marks (last_places unkept
 
 -- 7, by the marks; n is the order
 unfoldable pub quick_loop : List ℕ → ℕ → Reply
-quick_loop marks n = first_of n (λ v. cond (marked marks v v) (Loop v) Accepted)
+quick_loop marks n = first_of n (λ v. cond (marked marks v v) (Err (Loop v)) accepted)

@@ -4,10 +4,10 @@
 #![tactic(auto)]
 
 ghost use Rattle.std.specs.Prelude.{◌≡◌, ◌≤◌};
+ghost use Rattle.limits.specs.Answer.{first};
 ghost use Rattle.limits.specs.Limits.{routes};
 ghost use Rattle.words.specs.Words.{numbers};
 ghost use Rattle.rows.specs.Sheet.{order, graph_of};
-ghost use Rattle.replies.specs.Reply.{first};
 ghost use Rattle.places.specs.Places.{last_places, unkept};
 ghost use Rattle.entries.specs.Entries.{rows_reply, loop_reply};
 ghost use Rattle.entries.specs.Quick.{mark_row, mark_rows, quick_row, quick_rows, quick_loop};
@@ -16,19 +16,16 @@ use limits::ROUTES;
 use marks::{MARKS, mark, marked};
 use one_entry::reply_to_entry;
 use places::keep_places;
-use replies::{Reply, refuses};
+use replies::{Refusal, Reply};
 use rows::{order, row};
-use words::word_at;
+use words::numbers_of;
 
 // Every entry of row v marked.
 fn mark_row(row: &[u8], v: u32, t: &mut [u32; MARKS])
     ensures { t.new ≡ mark_row t.old v (numbers row.now) }
 {
-    let m = row.len() / 4;
-    let mut i = 0;
-    while i < m {
-        mark(t, v, word_at(row, i));
-        i += 1;
+    for w in numbers_of(row) {
+        mark(t, v, w);
     }
 }
 
@@ -36,11 +33,8 @@ fn mark_row(row: &[u8], v: u32, t: &mut [u32; MARKS])
 fn mark_rows(s: &[u8], t: &mut [u32; MARKS])
     ensures { t.new ≡ mark_rows (graph_of s.now) (order s.now) t.old }
 {
-    let n = order(s);
-    let mut v = 0;
-    while v < n {
+    for v in 0..order(s) {
         mark_row(row(s, v), v, t);
-        v += 1;
     }
 }
 
@@ -54,16 +48,10 @@ fn reply_to_places(
 ) -> Reply
     ensures { result ≡ quick_row marks.now last.now n v (numbers row.now) }
 {
-    let m = row.len() / 4;
-    let mut i = 0;
-    while i < m {
-        let r = reply_to_entry(marks, last, n, v, word_at(row, i), i);
-        if refuses(r) {
-            return r;
-        }
-        i += 1;
+    for (i, w) in numbers_of(row).enumerate() {
+        reply_to_entry(marks, last, n, v, w, i)?;
     }
-    Reply::Accepted
+    Ok(())
 }
 
 // The entries of row v in turn.
@@ -80,29 +68,22 @@ fn reply_to_marks(s: &[u8], marks: &[u32; MARKS]) -> Reply
     ensures { result ≡ quick_rows marks.now (graph_of s.now) }
 {
     let n = order(s);
-    let mut v = 0;
-    while v < n {
-        let r = reply_to_row(marks, n, v, row(s, v));
-        if refuses(r) {
-            return r;
-        }
-        v += 1;
+    for v in 0..n {
+        reply_to_row(marks, n, v, row(s, v))?;
     }
-    Reply::Accepted
+    Ok(())
 }
 
 // 7: the lowest route that is marked as naming itself.
 fn reply_to_loops(marks: &[u32; MARKS], n: u32) -> Reply
     ensures { result ≡ quick_loop marks.now n }
 {
-    let mut v = 0;
-    while v < n {
+    for v in 0..n {
         if marked(marks, v, v) {
-            return Reply::Loop { route: v };
+            return Err(Refusal::Loop { route: v });
         }
-        v += 1;
     }
-    Reply::Accepted
+    Ok(())
 }
 
 // 4 to 7, for a sheet with no more routes than the limit.
@@ -112,9 +93,6 @@ pub fn reply_to_rows(s: &[u8]) -> Reply
 {
     let mut marks = [0u32; MARKS];
     mark_rows(s, &mut marks);
-    let r = reply_to_marks(s, &marks);
-    if refuses(r) {
-        return r;
-    }
+    reply_to_marks(s, &marks)?;
     reply_to_loops(&marks, order(s))
 }

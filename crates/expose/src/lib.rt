@@ -4,15 +4,15 @@
 // partners, since the walks read the old partners to the end.
 #![tactic(auto)]
 
-ghost use Rattle.std.specs.Prelude.{◌≡◌, List};
+ghost use Rattle.std.specs.Prelude.{◌≡◌};
 ghost use Rattle.limits.specs.Limits.{routes};
-ghost use Rattle.theory.specs.Search.Tables.{groups, Tables};
+ghost use Rattle.theory.specs.Search.Tables.{groups};
 ghost use Rattle.theory.specs.Search.Expose.{pair_up, couples, expose, raise, augmented};
-ghost use Rattle.tables.specs.Shapes.{rings};
-ghost use Rattle.expose.specs.Over.{over, found};
+ghost use Rattle.tables.specs.Shapes.{rings_of, tables_of};
+ghost use Rattle.expose.specs.Found.{with_edge};
 
 use limits::ROUTES;
-use tables::{GROUPS, at, at_group, put};
+use tables::{Desk, Edge, GROUPS, at, put};
 
 // a and b become partners.
 fn pair_up(m: &mut [u32; ROUTES], a: u32, b: u32)
@@ -25,126 +25,72 @@ fn pair_up(m: &mut [u32; ROUTES], a: u32, b: u32)
 // j couples round a ring, from the group a on: the edge from a group to the next is a pair, and both are exposed at its
 // ends. f is above the number of every group in the ring, and falls with each ring within a ring.
 #[cycle(couples_expose)]
-fn couples(
-    f: u32,
-    up: &[u32; GROUPS],
-    next: &[u32; GROUPS],
-    out: &[u32; GROUPS],
-    into: &[u32; GROUPS],
-    half: &[u32; GROUPS],
-    j: u32,
-    a: u32,
-    m: &mut [u32; ROUTES],
-)
-    ensures { m.new ≡ couples routes (expose routes (rings up.now next.now out.now into.now) half.now f) (rings up.now next.now out.now into.now) j a m.old }
+fn couples(desk: &Desk, f: u32, j: u32, a: u32, m: &mut [u32; ROUTES])
+    ensures { m.new ≡ couples routes (expose routes (rings_of desk.now.rings) desk.now.trees.half f) (rings_of desk.now.rings) j a m.old }
 {
-    let mut left = j;
+    let r = &desk.rings;
     let mut g = a;
-    while left > 0 {
-        let d = at_group(next, g);
-        let x = at_group(out, g);
-        let y = at_group(into, g);
+    for _ in 0..j {
+        let d = at(&r.next, g);
+        let x = at(&r.out, g);
+        let y = at(&r.into, g);
         pair_up(m, x, y);
-        expose(f, up, next, out, into, half, g, x, m);
-        expose(f, up, next, out, into, half, d, y, m);
-        g = at_group(next, d);
-        left = left - 1;
+        expose(desk, f, g, x, m);
+        expose(desk, f, d, y, m);
+        g = at(&r.next, d);
     }
 }
 
 // The group g is exposed at its route x: ring by ring from x up to g, the others of each ring are coupled.
 #[cycle(couples_expose)]
-fn expose(
-    f: u32,
-    up: &[u32; GROUPS],
-    next: &[u32; GROUPS],
-    out: &[u32; GROUPS],
-    into: &[u32; GROUPS],
-    half: &[u32; GROUPS],
-    g: u32,
-    x: u32,
-    m: &mut [u32; ROUTES],
-)
-    ensures { m.new ≡ expose routes (rings up.now next.now out.now into.now) half.now f g x m.old }
+fn expose(desk: &Desk, f: u32, g: u32, x: u32, m: &mut [u32; ROUTES])
+    ensures { m.new ≡ expose routes (rings_of desk.now.rings) desk.now.trees.half f g x m.old }
 {
     if f == 0 {
         return;
     }
     let e = f - 1;
-    let mut left = e;
     let mut c = x;
-    while left > 0 {
+    for _ in 0..e {
         if c == g {
             return;
         }
-        let b = at_group(up, c);
-        let n = at_group(half, b);
-        let d = at_group(next, c);
-        couples(e, up, next, out, into, half, n, d, m);
+        let b = at(&desk.rings.up, c);
+        let n = at(&desk.trees.half, b);
+        let d = at(&desk.rings.next, c);
+        couples(desk, e, n, d, m);
         c = b;
-        left = left - 1;
     }
 }
 
-// From p up to its root, by at most f steps: p's group is exposed at p, and the partner of its base is paired with its
-// parent, from which the walk goes on.
-fn raise(
-    mate: &[u32; ROUTES],
-    parent: &[u32; ROUTES],
-    top: &[u32; ROUTES],
-    base: &[u32; GROUPS],
-    half: &[u32; GROUPS],
-    up: &[u32; GROUPS],
-    next: &[u32; GROUPS],
-    out: &[u32; GROUPS],
-    into: &[u32; GROUPS],
-    ids: u32,
-    f: usize,
-    p: u32,
-    m: &mut [u32; ROUTES],
-)
-    ensures { (s : Tables) → m.new ≡ raise routes (over s mate.now parent.now top.now base.now half.now (rings up.now next.now out.now into.now) ids) f p m.old }
+// From p up to its root, by at most as many steps as there is room for groups: p's group is exposed at p, and the partner
+// of its base is paired with its parent, from which the walk goes on.
+fn raise(desk: &Desk, p: u32, m: &mut [u32; ROUTES])
+    ensures { m.new ≡ raise routes (tables_of desk.now) (groups routes) p m.old }
 {
-    let mut left = f;
+    let t = &desk.trees;
     let mut v = p;
-    while left > 0 {
-        let g = at(top, v);
-        let b = at_group(base, g);
-        let i = at(mate, b);
-        expose(ids, up, next, out, into, half, g, v, m);
+    for _ in 0..GROUPS {
+        let g = at(&t.top, v);
+        let b = at(&t.base, g);
+        let i = at(&t.mate, b);
+        expose(desk, t.ids, g, v, m);
         if i == b {
             return;
         }
-        let q = at(parent, i);
+        let q = at(&t.parent, i);
         pair_up(m, i, q);
         v = q;
-        left = left - 1;
     }
 }
 
-// The pairing with the edge between one and two, and both walks. m is a copy of the partners at first.
-pub fn augmented(
-    mate: &[u32; ROUTES],
-    parent: &[u32; ROUTES],
-    top: &[u32; ROUTES],
-    base: &[u32; GROUPS],
-    half: &[u32; GROUPS],
-    up: &[u32; GROUPS],
-    next: &[u32; GROUPS],
-    out: &[u32; GROUPS],
-    into: &[u32; GROUPS],
-    ids: u32,
-    one: u32,
-    two: u32,
-    m: &mut [u32; ROUTES],
-)
-    ensures { (s : Tables) → m.old ≡ mate.now → m.new ≡ augmented routes (found s mate.now parent.now top.now base.now half.now (rings up.now next.now out.now into.now) ids one two) }
+// m is the partners with the edge between two trees, and both walks. It is lent, since a table that is answered is copied
+// on its way out.
+pub fn augmented(desk: &Desk, edge: Edge, m: &mut [u32; ROUTES])
+    ensures { m.new ≡ augmented routes (tables_of (with_edge desk.now edge)) }
 {
-    pair_up(m, one, two);
-    raise(
-        mate, parent, top, base, half, up, next, out, into, ids, GROUPS, one, m,
-    );
-    raise(
-        mate, parent, top, base, half, up, next, out, into, ids, GROUPS, two, m,
-    );
+    *m = desk.trees.mate;
+    pair_up(m, edge.one, edge.two);
+    raise(desk, edge.one, m);
+    raise(desk, edge.two, m);
 }

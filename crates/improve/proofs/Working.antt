@@ -9,6 +9,7 @@ use lib.ListN.{length, get_or, take, length-map, get_or-eq_default}
 use lib.Seq.{get_or-take, ext_get_or}
 use borrow.Author.Tests.{lt-ltb, ltb-true, ltb-false}
 use Rattle.limits.specs.Limits.{routes, none}
+use Rattle.graphs.specs.Count.{bit}
 use Rattle.graphs.specs.Parts.{run}
 use Rattle.theory.specs.Search.Tables.{cell}
 use Rattle.theory.specs.Search.Searched.{Outcome, found, stuck, mark, searched_in, improved_in}
@@ -66,11 +67,11 @@ module _ (s p w : List ℕ) (B : Begins s p w) (b n : ℕ) (t q l : List ℕ) (r
       e ∙ ap (λ (m : ℕ). map (λ v. mark (cell routes l v)) (run 0 m)) en ∙ marks-same routes (order s) l (order-most s B.accepted) (witness-length s p w B b _ k)
       ∙ sym (ap (λ (o : Outcome). witness_by o w) k)
 
-  pub finished-one : r ≡ true → 1 ≡ finished_by (last s p b)
-  finished-one h = sym (ap finished_by (last-stuck h))
+  pub finished-one : r ≡ true → bit r ≡ finished_by (last s p b)
+  finished-one h = ap bit h ∙ sym (ap finished_by (last-stuck h))
 
   pub marks-kept : r ≡ false → w ≡ witness_by (last s p b) w
   marks-kept h = sym (ap (λ (o : Outcome). witness_by o w) (last_found h).1)
 
-  pub finished-none : r ≡ false → 0 ≡ finished_by (last s p b)
-  finished-none h = sym (ap finished_by (last_found h).1)
+  pub finished-none : r ≡ false → bit r ≡ finished_by (last s p b)
+  finished-none h = ap bit h ∙ sym (ap finished_by (last_found h).1)

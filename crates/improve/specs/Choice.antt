@@ -1,10 +1,9 @@
 -- The choice: what a call of improve leaves, as functions of the bytes that it was lent. Nothing is left open. Assumes nothing.
-use Rattle.std.specs.Prelude.{ℕ, ◌-◌, Bool, cond, List, get_or}
+use Rattle.std.specs.Prelude.{ℕ, ◌-◌, cond, List, get_or, is_err}
 use Rattle.limits.specs.Limits.{routes, none}
 use Rattle.theory.specs.Search.Searched.{Outcome, found, stuck, searched_in, improved_in}
 use Rattle.words.specs.Words.{bytes_to}
 use Rattle.rows.specs.Sheet.{order, graph_of}
-use Rattle.verdicts.specs.Verdict.{refuses}
 use Rattle.witness.specs.Verdict.{improve_verdict}
 use Rattle.buffers.specs.Held.{partners_of, size_of, sessions_of}
 
@@ -28,7 +27,7 @@ witness_by (stuck a) witness = a
 
 -- x, or y where the call is refused
 abbrev pub or_refused : {A : Type 0} → List ℕ → List ℕ → List ℕ → A → A → A
-or_refused s pairing witness x y = cond (refuses (improve_verdict s pairing witness)) y x
+or_refused s pairing witness x y = cond (is_err (improve_verdict s pairing witness)) y x
 
 -- the bytes of the pairing after a call, and those of the witness
 unfoldable pub pairing_after : List ℕ → List ℕ → List ℕ → ℕ → List ℕ

@@ -1,15 +1,14 @@
 -- What a call of improve promises: the customer's third demand. The meaning comes first; alone it leaves open which pairing of that size comes out, and which
 -- witness. The choice fixes both. Assumes nothing.
-use Rattle.std.specs.Prelude.{ℕ, ◌+◌, ◌-◌, ◌≤◌, ◌<◌, min, ◌≡◌, ◌↔◌, ◌⊎◌, true, List, length}
+use Rattle.std.specs.Prelude.{ℕ, ◌+◌, ◌-◌, ◌≤◌, ◌<◌, min, ◌≡◌, ◌↔◌, ◌⊎◌, true, List, length, is_err}
 use Rattle.graphs.specs.Largest.{Largest}
 use Rattle.graphs.specs.Plan.{Session, Plan}
 use Rattle.rows.specs.Sheet.{order, graph_of}
 use Rattle.causes.specs.Given.{mate_of}
-use Rattle.verdicts.specs.Verdict.{refuses}
+use Rattle.limits.specs.Answer.{accepted}
+use Rattle.verdicts.specs.Verdict.{Verdict}
 use Rattle.witness.specs.Verdict.{improve_verdict, check_of}
 use Rattle.witness.specs.Promise.{PairingBytes}
-use Rattle.verdicts.specs.declared.Verdict.{Verdict}
-use Rattle.verdicts.specs.declared.Verdict.TheVariants as verdict
 use Rattle.buffers.specs.Held.{size_of, sessions_of}
 use Rattle.improve.specs.Choice.{pairing_after, witness_after, added_of, size_after, finished_of, sessions_after}
 
@@ -30,7 +29,7 @@ pub record Means (s p p' w w' : List ℕ) (b added size finished sessions : ℕ)
   pub exactly : (finished ≡ 1) ↔ (size_of s p' ≡ m)
   pub one-or-none : (finished ≡ 1) ⊎ (finished ≡ 0)
   -- when finished, the checker accepts the witness with the pairing left, and no plan has fewer sessions; else the witness is as lent
-  pub shown : finished ≡ 1 → check_of s p' w' ≡ verdict.Accepted
+  pub shown : finished ≡ 1 → check_of s p' w' ≡ accepted
   pub fewest : finished ≡ 1 → (ss : List Session) → Plan (graph_of s) ss → sessions ≤ length ss
   pub unwritten : finished ≡ 0 → w' ≡ w
   -- the sessions: the routes less the pairs
@@ -48,6 +47,6 @@ pub record Chosen (s p p' w w' : List ℕ) (b added size finished sessions : ℕ
 -- a call: its verdict, and what it leaves, refused or not
 pub record Improve (s p p' w w' : List ℕ) (b : ℕ) (r : Verdict) (added size finished sessions : ℕ) : Type 0 where
   pub is : r ≡ improve_verdict s p w
-  pub refused : refuses r ≡ true → (p' ≡ p) × (w' ≡ w)
-  pub means : r ≡ verdict.Accepted → Means s p p' w w' b added size finished sessions
+  pub refused : is_err r ≡ true → (p' ≡ p) × (w' ≡ w)
+  pub means : r ≡ accepted → Means s p p' w w' b added size finished sessions
   pub chosen : Chosen s p p' w w' b added size finished sessions

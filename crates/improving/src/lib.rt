@@ -4,8 +4,8 @@
 ghost use Rattle.improving.specs.ImproveCall.{ImproveCall};
 
 use answers::{put_more, put_told};
-use improve::improve;
-use verdicts::tell;
+use improve::{Improved, improve};
+use limits::tell;
 
 // At most `budget` pairs more, and whether there are none.
 pub fn improve_call(
@@ -20,10 +20,15 @@ pub fn improve_call(
     if answer.len() != 56 {
         return 9;
     }
-    let r = improve(sheet, pairing, witness, budget);
-    let verdict = r.verdict;
-    let told = tell(verdict);
+    let improved = improve(sheet, pairing, witness, budget);
+    let told = tell(improved.map(|_| ()));
+    let r = improved.unwrap_or(Improved {
+        added: 0,
+        size: 0,
+        finished: false,
+        sessions: 0,
+    });
     put_told(answer, told);
-    put_more(answer, r.added, r.size, r.finished, r.sessions);
+    put_more(answer, r.added, r.size, u32::from(r.finished), r.sessions);
     told.no
 }

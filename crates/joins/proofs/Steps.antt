@@ -10,7 +10,7 @@ use Rattle.graphs.specs.Count.{bit}
 use Rattle.graphs.proofs.Count.{count-le}
 use Rattle.mates.specs.Partners.{is_paired, count_of, Sound, freed, paired, id_at, after, augmented}
 use Rattle.paths.specs.Paths.{path_reply}
-use Rattle.refusals.specs.declared.Refusal.TheVariants.{Accepted}
+use Rattle.limits.specs.Answer.{accepted}
 use Rattle.paths.proofs.Replies.{path-accepted}
 use Rattle.mates.proofs.Sound.{paired-count, freed-count, freed-sound}
 use Rattle.joins.proofs.Paths.{after_next, after-sound}
@@ -40,7 +40,7 @@ module _ (ps qs : List ℕ) (n a b r q : ℕ) (s : Sound ps) (e : n ≡ count_of
 -- ---- a path, pair by pair: the first k pairs are made, qs is the list then, and a and b are the ids of pair k
 
 module _ (ps path qs : List ℕ) (k a b : ℕ) (l : k < length path / 2) (e : qs ≡ after k path ps) (ea : a ≡ id_at path (2 * k)) (eb : b ≡ id_at path (2 * k + 1)) where
-  pub all-ready : (n : ℕ) → Sound ps → path_reply path ≡ Accepted → n ≡ count_of qs → Sound qs × (n ≡ count_of qs) × (a < routes) × (b < routes) × (a ≢ b)
+  pub all-ready : (n : ℕ) → Sound ps → path_reply path ≡ accepted → n ≡ count_of qs → Sound qs × (n ≡ count_of qs) × (a < routes) × (b < routes) × (a ≢ b)
   all-ready n s h c =
       let p = path-accepted path h in
       rw (e, ea, eb) (after-sound ps path s p k (omega arith), rw e at c, p.ids (2 * k) (omega arith), p.ids (2 * k + 1) (omega arith), p.no_self k l)

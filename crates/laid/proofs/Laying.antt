@@ -4,19 +4,12 @@ use mathlib.Core.Path.{◌≡◌, refl, sym, ap, ◌∙◌}
 use mathlib.Core.List.{List, [], ◌∷◌, ◌++◌}
 use native.Mathlib.Omega.{arith}
 use native.Mathlib.Numerals.{add-one}
-use lib.ListN.{length, get_or, set}
+use lib.ListN.{length, set}
 use lib.Seq.{sets, set_out}
 use lib.Dec.{ltb}
 use borrow.Author.Tests.{ltb-true, ltb-false, lt-ltb, le-ltb}
-use Rattle.limits.specs.Limits.{none}
 use Rattle.graphs.proofs.Count.{cases}
-use Rattle.listing.specs.declared.Edges.{Edges}
 use Rattle.laid.specs.Answers.{Laid, laid, put, lay}
-use Rattle.asked.specs.Replies.{pairs_of}
-
-pub lay-none : (l : Laid) → lay l [] ≡ l
-unfolding lay
-lay-none l = refl
 
 -- one list and then another
 pub lay-append : (l : Laid) (xs ys : List ℕ) → lay l (xs ++ ys) ≡ lay (lay l xs) ys
@@ -31,25 +24,6 @@ put-room s i x h = rw (lt-ltb i (length s) h) refl
 pub put_full : (s : List ℕ) (i x : ℕ) → length s ≤ i → laid s i ≡ put (laid s i) x
 unfolding put
 put_full s i x h = rw (le-ltb i (length s) h, set_out s i x h) refl
-
-pub lay-two : (k l m : Laid) (x y : ℕ) → l ≡ put k x → m ≡ put l y → m ≡ lay k (x ∷ y ∷ [])
-unfolding lay
-lay-two k l m x y e f = cc
-
-pub lay-four : (k l m n o : Laid) (x y z w : ℕ) → l ≡ put k x → m ≡ put l y → n ≡ put m z → o ≡ put n w → o ≡ lay k (x ∷ y ∷ z ∷ w ∷ [])
-unfolding lay
-lay-four k l m n o x y z w e f g h = cc
-
-pub pairs-none : (l : Laid) (e : Edges) → l ≡ lay l (pairs_of 0 e)
-unfolding lay pairs_of
-pairs-none l e = refl
-
-pub pairs_next : (l m n o : Laid) (e : Edges) (k x y : ℕ)
-    → l ≡ lay o (pairs_of k e) → x ≡ get_or e.lower k none → y ≡ get_or e.upper k none → m ≡ put l x → n ≡ put m y → n ≡ lay o (pairs_of (k + 1) e)
-unfolding pairs_of
-pairs_next l m n o e k x y p ex ey f g =
-    let two : n ≡ lay l (x ∷ y ∷ []) = lay-two l m n x y f g in
-    rw (add-one, pairs_of, lay-append o (pairs_of k e) (get_or e.lower k none ∷ get_or e.upper k none ∷ []), ← p, ← ex, ← ey) two
 
 -- past the end nothing is stored
 sets-out : (s : List ℕ) (i : ℕ) (xs : List ℕ) → length s ≤ i → sets s i xs ≡ s

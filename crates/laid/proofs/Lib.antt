@@ -1,2 +1,3 @@
--- Laying: numbers laid down, for the proofs of this crate's functions and for `drive`.
+-- For the proofs of this crate's functions and for `drive`: Laying (numbers laid down), Stretches (what `Answers` lays down, one behind the other).
 pub mod Laying
+pub mod Stretches

@@ -1,57 +1,77 @@
 // Numbers laid down one after the other in what is lent, as far as there is room: those of a reply, and the pairs behind it.
 #![tactic(auto)]
 
-ghost use Rattle.std.specs.Prelude.{◌≡◌};
+ghost use Rattle.std.specs.Prelude.{◌≡◌, [], ◌∷◌};
 ghost use Rattle.asked.specs.Replies.{numbers_of, pairs_of, behind};
-ghost use Rattle.laid.specs.Answers.{laid, put, lay};
+ghost use Rattle.laid.specs.Answers.{laid};
+ghost use Rattle.laid.specs.Lays.{Lays, laid_in};
 
-use asked::{EDGES, Reply};
-use lent::number_at;
-use pairing::{Edges, Pairing};
+use asked::{Kind, Reply};
+use pairing::{Edge, Pairing};
 
-// A number laid down at a place; the answer is the place of the next.
-fn put(s: &mut [u64], place: usize, x: u64) -> usize
-    ensures { laid s.new result ≡ put (laid s.old place) x }
-{
-    if place < s.len() {
-        s[place] = x;
-        return place + 1;
-    }
-    place
+// The numbers that are lent, and the place of the next one to lay down. Each function lays down behind what was laid down before.
+#[derive(Drop)]
+pub struct Answers<'a> {
+    numbers: &'a mut [u64],
+    place: usize,
 }
 
-// The four numbers of a reply.
-pub fn put_reply(s: &mut [u64], place: usize, r: Reply) -> usize
-    ensures { laid s.new result ≡ lay (laid s.old place) (numbers_of r) }
-{
-    let a = put(s, place, r.told.no as u64);
-    let b = put(s, a, r.told.a);
-    let v = put(s, b, r.told.b);
-    put(s, v, r.value)
-}
-
-// The pairs of an answer, the lower id of each before its partner.
-fn put_edges(s: &mut [u64], place: usize, e: Edges) -> usize
-    ensures { laid s.new result ≡ lay (laid s.old place) (pairs_of e.count e) }
-{
-    let lower = e.lower;
-    let upper = e.upper;
-    let mut next = place;
-    let mut k = 0;
-    while k < e.count {
-        let mid = put(s, next, number_at(&lower, k) as u64);
-        next = put(s, mid, number_at(&upper, k) as u64);
-        k += 1;
+impl<'a> Answers<'a> {
+    // Nothing laid down yet.
+    pub fn new(numbers: &'a mut [u64]) -> Self
+        ensures lent { result.numbers.ghost_name ≡ numbers.entry.ghost_name }
+        ensures nothing { laid_in result ≡ laid numbers.old 0 }
+    {
+        Answers { numbers, place: 0 }
     }
-    next
-}
 
-// The pairs behind the answer to an operation: all of them where `edges` was asked, and none elsewhere.
-pub fn put_pairs(s: &mut [u64], place: usize, p: Pairing, code: u32) -> usize
-    ensures { laid s.new result ≡ lay (laid s.old place) (behind p code) }
-{
-    if code == EDGES {
-        return put_edges(s, place, p.edges());
+    // What comes is laid down from this place on.
+    pub fn from_place(numbers: &'a mut [u64], place: usize) -> Self
+        ensures lent { result.numbers.ghost_name ≡ numbers.entry.ghost_name }
+        ensures from { laid_in result ≡ laid numbers.old place }
+    {
+        Answers { numbers, place }
     }
-    place
+
+    // One number, if there is room for it.
+    fn put(&mut self, x: u64)
+        ensures { Lays self.old self.new (x ∷ []) }
+    {
+        if self.place < self.numbers.len() {
+            self.numbers[self.place] = x;
+            self.place += 1;
+        }
+    }
+
+    // The four numbers of a reply.
+    pub fn put_reply(&mut self, r: Reply)
+        ensures { Lays self.old self.new (numbers_of r) }
+    {
+        self.put(u64::from(r.told.no));
+        self.put(r.told.a);
+        self.put(r.told.b);
+        self.put(r.value);
+    }
+
+    // Pairs, the lower id of each before its partner.
+    fn put_edges(&mut self, edges: &[Edge])
+        ensures { Lays self.old self.new (pairs_of edges.now) }
+    {
+        for edge in edges {
+            self.put(u64::from(edge.lower));
+            self.put(u64::from(edge.upper));
+        }
+    }
+
+    // The pairs behind the answer to an operation: all of them where `edges` was asked, and none elsewhere.
+    pub fn put_pairs(&mut self, p: Pairing, code: u32)
+        ensures { Lays self.old self.new (behind p code) }
+    {
+        if code != u32::from(Kind::Edges) {
+            return;
+        }
+        if let Ok(edges) = p.edges() {
+            self.put_edges(edges.as_slice());
+        }
+    }
 }

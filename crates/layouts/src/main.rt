@@ -5,13 +5,11 @@
 // and the table of refusals, and not from a run of this program.
 #![tactic(auto)]
 
-ghost use Rattle.std.specs.Prelude.{◌≤◌};
-
 use limits::{NONE, ROUTES};
 use printing::{field, write};
 use samples::{
-    ALL, LARGE, SMALL, front, is_told, line_end, long_at, number_from, place_of, put_all,
-    put_numbers, put_ten, put_words, sheet_length, small,
+    ALL, LARGE, SMALL, front, is_told, long_at, number_from, put_all, put_numbers, put_pair,
+    put_ten, put_words, sheet_length, small,
 };
 use std::io;
 use std::io::{BufWriter, Read, Write};
@@ -56,7 +54,7 @@ fn entries<W: Write>(out: &mut W, s: &[u8]) -> io::Result<()> {
     write(out, b":")?;
     let k = word_at(s, 0) as usize + 1;
     if k < s.len() / 4 {
-        field(out, b" entries ", word_at(s, k) as u64)?;
+        field(out, b" entries ", u64::from(word_at(s, k)))?;
         write(out, b",")?;
     }
     Ok(())
@@ -64,23 +62,9 @@ fn entries<W: Write>(out: &mut W, s: &[u8]) -> io::Result<()> {
 
 // How many routes have no partner.
 fn unpaired(pairing: &[u8]) -> u64 {
-    let mut count = 0;
-    let mut k = 0;
-    while k < pairing.len() / 4 {
-        count += is_none(word_at(pairing, k));
-        k += 1;
-    }
-    count
-}
-
-// 1 for none, 0 for a route.
-fn is_none(x: u32) -> u64
-    ensures { result ≤ 1 }
-{
-    if x == NONE {
-        return 1;
-    }
-    0
+    (0..pairing.len() / 4)
+        .filter(|v| word_at(pairing, *v) == NONE)
+        .count() as u64
 }
 
 // Improves the pairing, and writes what is answered.
@@ -120,7 +104,7 @@ fn line<W: Write>(
     budget: u32,
 ) -> io::Result<()> {
     write(out, label)?;
-    field(out, b", budget ", budget as u64)?;
+    field(out, b", budget ", u64::from(budget))?;
     entries(out, s)?;
     improve(out, s, pairing, witness, budget)?;
     left(out, s, pairing, witness)
@@ -130,12 +114,10 @@ fn line<W: Write>(
 fn from_nothing<W: Write>(out: &mut W, label: &[u8], s: &[u8], n: usize) -> io::Result<()> {
     let mut pairing = [255u8; PAIRING];
     let mut witness = [0u8; WITNESS];
-    let z = 0;
     if WITNESS < n {
         return Ok(());
     }
-    let end = 4 * n;
-    line(out, label, s, &mut pairing[z..end], &mut witness[z..n], ALL)
+    line(out, label, s, &mut pairing[..4 * n], &mut witness[..n], ALL)
 }
 
 // The line of the sheet that ends after so many bytes, from nothing, with the buffers of the routes that it says first.
@@ -167,23 +149,19 @@ fn joined<W: Write>(out: &mut W, line: &[u8], at: usize) -> io::Result<()> {
 
 // The line of a sheet that `stdin` has.
 fn case<W: Write>(out: &mut W, line: &[u8]) -> io::Result<()> {
-    let colon = place_of(line, b':');
-    if colon < line.len() {
+    if let Some(colon) = line.iter().position(|b| *b == b':') {
         return given(out, line, colon);
     }
-    joined(out, line, place_of(line, b';'))
+    let semicolon = line.iter().position(|b| *b == b';');
+    joined(out, line, semicolon.unwrap_or(line.len()))
 }
 
 // All these sheets, in turn.
 fn cases<W: Write>(out: &mut W, text: &[u8]) -> io::Result<()> {
-    let mut at = 0;
-    while at < text.len() {
-        let end = line_end(text, at);
-        let line = &text[at..end];
+    for line in text.split(|b| *b == b'\n') {
         if is_told(line) {
             case(out, line)?;
         }
-        at = end + 1;
     }
     Ok(())
 }
@@ -218,20 +196,14 @@ fn ten<W: Write>(out: &mut W, label: &[u8], pairing: &mut [u8; TEN]) -> io::Resu
     line(out, label, small(&s, 136), pairing, &mut witness, ALL)
 }
 
-// Two of ten routes made partners.
-fn pair(pairing: &mut [u8; TEN], v: u32, w: u32) {
-    put_word(pairing, v as usize, w);
-    put_word(pairing, w as usize, v);
-}
-
 // From nothing, and from the four pairs at which gamma panics.
 fn tens<W: Write>(out: &mut W) -> io::Result<()> {
     let mut pairing = [255u8; TEN];
     let mut start = [255u8; TEN];
-    pair(&mut start, 1, 2);
-    pair(&mut start, 3, 4);
-    pair(&mut start, 5, 6);
-    pair(&mut start, 7, 8);
+    put_pair(&mut start, 1, 2);
+    put_pair(&mut start, 3, 4);
+    put_pair(&mut start, 5, 6);
+    put_pair(&mut start, 7, 8);
     ten(out, b"ten from nothing", &mut pairing)?;
     ten(out, b"ten from 1-2 3-4 5-6 7-8", &mut start)
 }

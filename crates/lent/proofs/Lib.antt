@@ -1,4 +1,5 @@
--- For the crates above: Ends (where an operation ends, and its ids). Lists (a list of bytes, place by place) is for the proofs of this crate's
--- functions alone.
-pub mod Ends
+-- For the proofs of this crate's functions alone: Ends (where an operation ends, and its ids), Left (the operations that are still to come), and
+-- Lists (a list of bytes, place by place).
+mod Ends
+mod Left
 mod Lists

@@ -14,10 +14,8 @@ fn partners(s: &[u8]) -> [u32; ROUTES]
     ensures { result ≡ map (word s.now) (run 0 routes) }
 {
     let mut t = [NONE; ROUTES];
-    let mut k = 0;
-    while k < ROUTES {
-        t[k] = word_at(s, k);
-        k += 1;
+    for (k, x) in t.iter_mut().enumerate() {
+        *x = word_at(s, k);
     }
     t
 }
@@ -36,10 +34,8 @@ pub fn read_pairing(s: &[u8]) -> Pairing
 fn put_words(s: &mut [u8], t: &[u32])
     ensures { s.new ≡ put_words s.old 0 t.now }
 {
-    let mut k = 0;
-    while k < t.len() {
-        put_word(s, k, t[k]);
-        k += 1;
+    for (k, x) in t.iter().enumerate() {
+        put_word(s, k, *x);
     }
 }
 

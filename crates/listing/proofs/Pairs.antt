@@ -1,20 +1,20 @@
 -- Each pair has two ids: the order is twice the number of pairs, and half the routes are room enough for their lower ids. Assumes nothing.
-use Prim.Native.Nat.{ℕ, zero, suc, ◌+◌, ◌*◌, ◌/◌, ◌-◌, ◌≤◌, ◌<◌}
-use mathlib.Core.Path.{◌≡◌, refl, sym, ap, ◌∙◌}
-use mathlib.Core.Bool.{Bool, true, cond}
+use Prim.Native.Nat.{ℕ, zero, suc, ◌+◌, ◌*◌, ◌/◌, ◌≤◌, ◌<◌}
+use mathlib.Core.Path.{◌≡◌, refl}
+use mathlib.Core.Bool.{Bool, true, false, cond}
 use mathlib.Core.List.{List, [], ◌∷◌, ◌++◌, map, append-nil}
 use native.Mathlib.Omega.{arith}
 use native.Mathlib.Numerals.{add-one}
-use lib.ListN.{length, set, replicate, length-append}
-use lib.Seq.{set-append_seam, append_snoc}
+use lib.ListN.{length, length-append}
 use lib.Dec.{ltb}
 use borrow.Author.Tests.{ltb-true, ltb-false}
-use Rattle.limits.specs.Limits.{routes, none}
+use Rattle.limits.specs.Limits.{routes}
 use Rattle.graphs.specs.Count.{count, bit, but}
 use Rattle.graphs.proofs.Count.{cases, tests, count-split, count-inj, count-le, count-step}
 use Rattle.mates.specs.Partners.{mate_of, is_paired, count_of, Sound, is_lower, rising, lowers}
 use Rattle.mates.proofs.Sound.{mate-back, mate-apart}
-use Rattle.listing.specs.Listing.{padded}
+use Rattle.std.proofs.lemmas.List.{map-append}
+use Rattle.listing.specs.Listing.{edge_of}
 
 pub rising-length : (n : ℕ) (P : ℕ → Bool) → length (rising n P) ≡ count n P
 unfolding rising count
@@ -69,41 +69,17 @@ module _ (ps : List ℕ) (s : Sound ps) where
       let y : bit (is_lower ps i) ≡ 1 = rw t refl in
       omega (arith, count-more (i + 1) routes (is_lower ps) (omega arith), rising-length i (is_lower ps), rising-length routes (is_lower ps), pairs-half)
 
--- ---- the tables of the pairs, id by id
-
-map_more : (f : ℕ → ℕ) (xs : List ℕ) (x : ℕ) → map f (xs ++ x ∷ []) ≡ map f xs ++ f x ∷ []
-map_more f [] x = refl
-map_more f (y ∷ ys) x = ap (λ (l : List ℕ). f y ∷ l) (map_more f ys x)
-
-length-map : (f : ℕ → ℕ) (xs : List ℕ) → length (map f xs) ≡ length xs
-length-map f [] = refl
-length-map f (y ∷ ys) = ap suc (length-map f ys)
-
-pub padded-more : (xs : List ℕ) (x : ℕ) → length xs < routes / 2 → set (padded xs) (length xs) x ≡ padded (xs ++ x ∷ [])
-unfolding padded
-padded-more xs x l =
-    let r : ℕ = routes / 2 - suc (length xs) in
-    let e : routes / 2 - length xs ≡ suc r = omega arith in
-    let f : length (xs ++ x ∷ []) ≡ suc (length xs) = simp length-append (omega arith) in
-    rw (e, f) (set-append_seam xs none (replicate r none) x ∙ sym (append_snoc xs x (replicate r none)))
+-- ---- the pairs, id by id
 
 rising-next : (i : ℕ) (P : ℕ → Bool) → rising (i + 1) P ≡ rising i P ++ cond (P i) (i ∷ []) []
 unfolding rising
 rising-next i P = rw (add-one, rising)
 
-module _ (ps : List ℕ) (s : Sound ps) (i : ℕ) (l : i < routes) where
-  pub listing-next : (lower upper : List ℕ) (n : ℕ)
-      → n ≡ length (rising i (is_lower ps)) → lower ≡ padded (rising i (is_lower ps)) → upper ≡ padded (map (mate_of ps) (rising i (is_lower ps)))
-      → (n + bit (is_lower ps i) ≡ length (rising (i + 1) (is_lower ps)))
-      × (cond (is_lower ps i) (set lower n i) lower ≡ padded (rising (i + 1) (is_lower ps)))
-      × (cond (is_lower ps i) (set upper n (mate_of ps i)) upper ≡ padded (map (mate_of ps) (rising (i + 1) (is_lower ps))))
-  listing-next lower upper n e f g = cases (is_lower ps i)
-      (λ t.
-      let room = lower-room ps s i l t in
-      let k = length-map (mate_of ps) (rising i (is_lower ps)) in
-      rw (rising-next i (is_lower ps), t, e, f, g) (
-        simp length-append (omega arith),
-        padded-more (rising i (is_lower ps)) i room,
-        rw (map_more (mate_of ps) (rising i (is_lower ps)) i, ← k) (padded-more (map (mate_of ps) (rising i (is_lower ps))) (mate_of ps i) (omega arith)),
-      ))
-      (λ t. rw (rising-next i (is_lower ps), t, append-nil) (omega arith, f, g))
+module _ (ps : List ℕ) (i : ℕ) where
+  -- the lower id of a pair adds the pair
+  pub one-listed : is_lower ps i ≡ true → map (edge_of ps) (rising (i + 1) (is_lower ps)) ≡ map (edge_of ps) (rising i (is_lower ps)) ++ edge_of ps i ∷ []
+  one-listed t = rw (rising-next i (is_lower ps), t) (map-append (edge_of ps) (rising i (is_lower ps)) (i ∷ []))
+
+  -- any other id adds none
+  pub none-listed : is_lower ps i ≡ false → map (edge_of ps) (rising (i + 1) (is_lower ps)) ≡ map (edge_of ps) (rising i (is_lower ps))
+  none-listed t = rw (rising-next i (is_lower ps), t, append-nil) refl

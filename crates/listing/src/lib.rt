@@ -1,53 +1,74 @@
-// The pairs of a table of partners, by lower id, rising, as a count beside two tables. The crate `pairing` calls `list_all`
-// behind its checks.
+// The pairs of a table of partners, by lower id, rising. The crate `pairing` calls `list_all` behind its checks.
 #![tactic(auto)]
 
-ghost use Rattle.std.specs.Prelude.{◌≡◌, true, cond, ◌+◌, ◌/◌, ◌<◌, set};
+ghost use Rattle.std.specs.Prelude.{◌≡◌, ◌/◌, ◌<◌, [], ◌∷◌, ◌++◌, length};
 ghost use Rattle.limits.specs.Limits.{routes};
-ghost use Rattle.graphs.specs.Count.{bit};
-ghost use Rattle.mates.specs.Partners.{Sound, mate_of, is_lower};
+ghost use Rattle.mates.specs.Partners.{Sound};
 ghost use Rattle.listing.specs.Listing.{edges_in};
 
 use limits::{NONE, ROUTES};
 use mates::{IDS, partner_of};
-use refusals::Refusal;
+use std::marker::Model;
 
 // The most pairs that there can be.
 pub const HALF: usize = ROUTES / 2;
 
-// What `edges` answers: a count beside two tables, in which the places past the count hold none.
+// A pair: the lower id of the two, and its partner.
 #[derive(Clone, Copy)]
-pub struct Edges {
-    pub refusal: Refusal,
-    pub count: usize,
-    pub lower: [u32; HALF],
-    pub upper: [u32; HALF],
+pub struct Edge {
+    pub lower: u32,
+    pub upper: u32,
 }
 
-// The pair of which id is the lower one, if there is such a pair, put at place n of the tables; the answer is the place
-// after it.
-fn list(
-    t: &[u32; ROUTES],
-    id: u32,
-    n: usize,
-    lower: &mut [u32; HALF],
-    upper: &mut [u32; HALF],
-) -> usize
-    requires { is_lower t.now id ≡ true → n < routes / 2 }
-    ensures place { result ≡ n + bit (is_lower t.now id) }
-    ensures lowers { lower.new ≡ cond (is_lower t.now id) (set lower.old n id) lower.old }
-    ensures uppers { upper.new ≡ cond (is_lower t.now id) (set upper.old n (mate_of t.now id)) upper.old }
-{
-    let m = partner_of(t, id);
-    if IDS <= m {
-        return n;
+// Pairs: a count beside a table of fixed size, since nothing is allocated. A contract sees the list of the pairs that there
+// are; what the table holds past the count cannot be read.
+#[derive(Drop)]
+pub struct Edges {
+    count: usize,
+    pairs: [Edge; HALF],
+}
+
+impl Model for Edges {
+    ghost use Rattle.std.specs.Prelude.{◌/◌, ◌≤◌, List, take};
+    ghost use Rattle.limits.specs.Limits.{routes};
+    ghost use Rattle.listing.specs.declared.Edge.{Edge};
+
+    ghost Value = { List Edge };
+
+    ghost view = { λ e. take e.count e.pairs };
+
+    ghost invariant = { λ e. e.count ≤ routes / 2 };
+}
+
+impl Edges {
+    // No pairs.
+    fn new() -> Self
+        ensures { result ≡ [] }
+    {
+        Edges {
+            count: 0,
+            pairs: [Edge {
+                lower: NONE,
+                upper: NONE,
+            }; HALF],
+        }
     }
-    if m <= id {
-        return n;
+
+    // One pair more, behind those that there are.
+    fn push(&mut self, edge: Edge)
+        requires { length self.old < routes / 2 }
+        ensures { self.new ≡ self.old ++ edge ∷ [] }
+    {
+        self.pairs[self.count] = edge;
+        self.count += 1;
     }
-    lower[n] = id;
-    upper[n] = m;
-    n + 1
+
+    // The pairs that there are.
+    pub fn as_slice(&self) -> &[Edge]
+        ensures { result.now ≡ self.now }
+    {
+        &self.pairs[..self.count]
+    }
 }
 
 // All pairs, by lower id, rising.
@@ -55,18 +76,12 @@ pub fn list_all(t: &[u32; ROUTES]) -> Edges
     requires { Sound t.now }
     ensures { result ≡ edges_in t.now }
 {
-    let mut lower = [NONE; HALF];
-    let mut upper = [NONE; HALF];
-    let mut n = 0;
-    let mut i = 0;
-    while i < IDS {
-        n = list(t, i, n, &mut lower, &mut upper);
-        i += 1;
+    let mut edges = Edges::new();
+    for lower in 0..IDS {
+        let upper = partner_of(t, lower);
+        if lower < upper && upper < IDS {
+            edges.push(Edge { lower, upper });
+        }
     }
-    Edges {
-        refusal: Refusal::Accepted,
-        count: n,
-        lower,
-        upper,
-    }
+    edges
 }

@@ -5,25 +5,13 @@
 ghost use Rattle.std.specs.Prelude.{◌≡◌};
 ghost use Rattle.longs.specs.Longs.{put_long};
 
-// Long number k of the bytes, of eight bytes, set to x; where its eight bytes are not all there, nothing.
+// Long number k of the bytes, of eight bytes, set to x; where its eight bytes are not all there, nothing. `put_word` of
+// `words` is the same of four bytes; each has its definition, and one over both widths would be longer than the two.
 pub fn put_long(s: &mut [u8], k: usize, x: u64)
     ensures { s.new ≡ put_long s.old k x }
 {
     if k < s.len() / 8 {
         let i = 8 * k;
-        let b = x / 256;
-        let c = b / 256;
-        let d = c / 256;
-        let e = d / 256;
-        let f = e / 256;
-        let g = f / 256;
-        s[i] = (x % 256) as u8;
-        s[i + 1] = (b % 256) as u8;
-        s[i + 2] = (c % 256) as u8;
-        s[i + 3] = (d % 256) as u8;
-        s[i + 4] = (e % 256) as u8;
-        s[i + 5] = (f % 256) as u8;
-        s[i + 6] = (g % 256) as u8;
-        s[i + 7] = (g / 256 % 256) as u8;
+        s[i..i + 8].copy_from_slice(&x.to_le_bytes());
     }
 }

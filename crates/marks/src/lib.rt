@@ -34,14 +34,11 @@ pub fn marked(t: &[u32; MARKS], v: u32, w: u32) -> bool
 {
     let a = v as usize;
     let b = w as usize;
-    if ROUTES <= a {
-        return false;
+    if a < ROUTES && b < ROUTES {
+        let q = b / 32;
+        return bit(t[a * ROW + q], b - 32 * q);
     }
-    if ROUTES <= b {
-        return false;
-    }
-    let q = b / 32;
-    bit(t[a * ROW + q], b - 32 * q)
+    false
 }
 
 // The table with v marked as naming w.
@@ -50,14 +47,9 @@ pub fn mark(t: &mut [u32; MARKS], v: u32, w: u32)
 {
     let a = v as usize;
     let b = w as usize;
-    if ROUTES <= a {
-        return;
+    if a < ROUTES && b < ROUTES {
+        let q = b / 32;
+        let at = a * ROW + q;
+        t[at] = with_bit(t[at], b - 32 * q);
     }
-    if ROUTES <= b {
-        return;
-    }
-    let q = b / 32;
-    let at = a * ROW + q;
-    let x = t[at];
-    t[at] = with_bit(x, b - 32 * q);
 }

@@ -11,7 +11,8 @@ use limits::{NONE, ROUTES};
 // The limit, among ids.
 pub const IDS: u32 = ROUTES as u32;
 
-// The partner of an id. What is no id has none.
+// The partner of an id. What is no id has none, which is a number here: refusal 10 names whatever number stands in the
+// table, so the answer is the number itself, and `mate_of` says which.
 pub fn partner_of(t: &[u32; ROUTES], id: u32) -> u32
     ensures { result ≡ mate_of t.now id }
 {
@@ -26,25 +27,13 @@ pub fn is_paired(t: &[u32; ROUTES], id: u32) -> bool
     partner_of(t, id) < IDS
 }
 
-// 1 for an id that has a partner, 0 for any other.
-fn one_if_paired(t: &[u32; ROUTES], id: u32) -> u32
-    ensures { result ≡ bit (is_paired t.now id) }
-{
-    if is_paired(t, id) {
-        return 1;
-    }
-    0
-}
-
 // How many ids have a partner.
 pub fn paired_ids(t: &[u32; ROUTES]) -> u32
     ensures { result ≡ count_of t.now }
 {
     let mut n = 0;
-    let mut i = 0;
-    while i < IDS {
-        n += one_if_paired(t, i);
-        i += 1;
+    for i in 0..IDS {
+        n += u32::from(is_paired(t, i));
     }
     n
 }

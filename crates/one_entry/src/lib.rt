@@ -8,7 +8,7 @@ ghost use Rattle.one_entry.specs.OneEntry.{quick_entry};
 use limits::ROUTES;
 use marks::{MARKS, marked};
 use places::kept;
-use replies::Reply;
+use replies::{Refusal, Reply};
 
 // 4, 5 and 6 for the entry w at place i of row v.
 pub fn reply_to_entry(
@@ -22,13 +22,13 @@ pub fn reply_to_entry(
     ensures { result ≡ quick_entry marks.now last.now n v w i }
 {
     if n <= w {
-        return Reply::UnknownId { entry: w };
+        return Err(Refusal::UnknownId { entry: w });
     }
     if i < kept(last, w) {
-        return Reply::DuplicateEdge { row: v, entry: w };
+        return Err(Refusal::DuplicateEdge { row: v, entry: w });
     }
     if marked(marks, w, v) {
-        return Reply::Accepted;
+        return Ok(());
     }
-    Reply::MissingEdge { entry: w, row: v }
+    Err(Refusal::MissingEdge { entry: w, row: v })
 }

@@ -11,20 +11,20 @@ use Rattle.graphs.proofs.Count.{cases}
 use Rattle.mates.specs.Partners.{count_of, Sound, Pairable, fresh, paired, augmented}
 use Rattle.checks.specs.Checks.{pairing_reply, id_reply, pair_reply}
 use Rattle.paths.specs.Paths.{unknown, self_pair, path_reply}
-use Rattle.refusals.specs.declared.Refusal.TheVariants.{Accepted}
+use Rattle.limits.specs.Answer.{accepted}
 use Rattle.mates.proofs.Sound.{fresh-sound, fresh-count, paired-sound}
 use Rattle.checks.proofs.Replies.{sound-accepted}
 use Rattle.pairing.specs.Answers.{pair_answer, augment_answer}
 use Rattle.pairing.specs.declared.Pairing.{Pairing}
 use Rattle.joins.proofs.Paths.{augmented-sound, augmented-cons, augmented-empty}
 
-pub fresh-accepted : pairing_reply fresh 0 ≡ Accepted
+pub fresh-accepted : pairing_reply fresh 0 ≡ accepted
 fresh-accepted = rw fresh-count at (sound-accepted fresh fresh-sound)
 
-pub paired-accepted : (ps : List ℕ) → Sound ps → (a b : ℕ) → a ≢ b → a < routes → b < routes → pairing_reply (paired ps a b) (count_of (paired ps a b)) ≡ Accepted
+pub paired-accepted : (ps : List ℕ) → Sound ps → (a b : ℕ) → a ≢ b → a < routes → b < routes → pairing_reply (paired ps a b) (count_of (paired ps a b)) ≡ accepted
 paired-accepted ps s a b ne la lb = sound-accepted (paired ps a b) (paired-sound ps s a b ne la lb)
 
-pub augmented-accepted : (ps path : List ℕ) → Sound ps → Pairable path → pairing_reply (augmented ps path) (count_of (augmented ps path)) ≡ Accepted
+pub augmented-accepted : (ps path : List ℕ) → Sound ps → Pairable path → pairing_reply (augmented ps path) (count_of (augmented ps path)) ≡ accepted
 augmented-accepted ps path s p = sound-accepted (augmented ps path) (augmented-sound ps path s p)
 
 -- the refusals of two ids are those of the path of the two

@@ -1,59 +1,54 @@
 -- What each operation answers, for any pairing and any ids: its refusal, or the next pairing, or what was asked.
-use Rattle.std.specs.Prelude.{ℕ, false, cond, List, []}
+use Rattle.std.specs.Prelude.{ℕ, Bool, List, Result, Ok, Err}
 use Rattle.mates.specs.Partners.{mate_of, is_paired, count_of, paired, augmented}
-use Rattle.refusals.specs.Reply.{refuses, first}
+use Rattle.limits.specs.Answer.{first}
+use Rattle.refusals.specs.Reply.{Reply}
 use Rattle.checks.specs.Checks.{pairing_reply, id_reply, pair_reply, mate_reply}
 use Rattle.paths.specs.Paths.{path_reply}
 use Rattle.refusals.specs.declared.Refusal.{Refusal}
-use Rattle.refusals.specs.declared.Refusal.TheVariants.{Accepted}
-use Rattle.listing.specs.Listing.{padded, edges_in}
-use Rattle.listing.specs.declared.Edges.{Edges}
+use Rattle.listing.specs.Listing.{edges_in}
+use Rattle.listing.specs.declared.Edge.{Edge}
 use Rattle.pairing.specs.declared.Pairing.{Pairing}
-use Rattle.pairing.specs.declared.Next.{Next}
-use Rattle.pairing.specs.declared.Order.{Order}
-use Rattle.pairing.specs.declared.Node.{Node}
-use Rattle.pairing.specs.declared.Mate.{Mate}
+use Rattle.pairing.specs.declared.Refused.{Refused}
 
 -- the pairing with these partners, and with the right count
 abbrev pub kept : List ℕ → Pairing
 kept ps = record { partner = ps; count = count_of ps }
 
 -- the refusal of a pairing, or else another
-abbrev pub reply_to : Pairing → Refusal → Refusal
+abbrev pub reply_to : Pairing → Reply → Reply
 reply_to p r = first (pairing_reply p.partner p.count) r
 
+-- a refused operation answers its refusal alone; an accepted one answers what was asked
+abbrev pub answered : {A : Type 0} → Reply → A → Result A Refusal
+answered (Ok _) x = Ok x
+answered (Err r) x = Err r
+
 -- a refused operation hands the same pairing back; an accepted one hands on the pairing with these partners
-abbrev pub next : Refusal → Pairing → List ℕ → Next
-next r p ps = cond (refuses r) (record { refusal = r; pairing = p }) (record { refusal = Accepted; pairing = kept ps })
+abbrev pub next : Reply → Pairing → List ℕ → Result Pairing Refused
+next (Ok _) p ps = Ok (kept ps)
+next (Err r) p ps = Err (record { refusal = r; pairing = p })
 
 -- `pair`: the first id is position 0, the second 1
-unfoldable pub pair_answer : Pairing → ℕ → ℕ → Next
+unfoldable pub pair_answer : Pairing → ℕ → ℕ → Result Pairing Refused
 pair_answer p a b = next (reply_to p (pair_reply a b)) p (paired p.partner a b)
 
 -- `augment`
-unfoldable pub augment_answer : Pairing → List ℕ → Next
+unfoldable pub augment_answer : Pairing → List ℕ → Result Pairing Refused
 augment_answer p path = next (reply_to p (path_reply path)) p (augmented p.partner path)
 
--- `order`: how many ids have a partner, twice the size; 0 where it is refused
-unfoldable pub order_answer : Pairing → Order
-order_answer p =
-    let r = pairing_reply p.partner p.count in
-    cond (refuses r) (record { refusal = r; ids = 0 }) (record { refusal = Accepted; ids = count_of p.partner })
+-- `order`: how many ids have a partner, twice the size
+unfoldable pub order_answer : Pairing → Result ℕ Refusal
+order_answer p = answered (pairing_reply p.partner p.count) (count_of p.partner)
 
--- `has_node`: whether the id has a partner; no where it is refused
-unfoldable pub has_node_answer : Pairing → ℕ → Node
-has_node_answer p i =
-    let r = reply_to p (id_reply 0 i) in
-    cond (refuses r) (record { refusal = r; paired = false }) (record { refusal = Accepted; paired = is_paired p.partner i })
+-- `has_node`: whether the id has a partner
+unfoldable pub has_node_answer : Pairing → ℕ → Result Bool Refusal
+has_node_answer p i = answered (reply_to p (id_reply 0 i)) (is_paired p.partner i)
 
--- `mate`: the partner of the id; 0 where it is refused
-unfoldable pub mate_answer : Pairing → ℕ → Mate
-mate_answer p i =
-    let r = reply_to p (mate_reply p.partner i) in
-    cond (refuses r) (record { refusal = r; id = 0 }) (record { refusal = Accepted; id = mate_of p.partner i })
+-- `mate`: the partner of the id
+unfoldable pub mate_answer : Pairing → ℕ → Result ℕ Refusal
+mate_answer p i = answered (reply_to p (mate_reply p.partner i)) (mate_of p.partner i)
 
--- `edges`: those of a pairing; no pairs where it is refused
-unfoldable pub edges_answer : Pairing → Edges
-edges_answer p =
-    let r = pairing_reply p.partner p.count in
-    cond (refuses r) (record { refusal = r; count = 0; lower = padded []; upper = padded [] }) (edges_in p.partner)
+-- `edges`: the pairs by lower id, rising
+unfoldable pub edges_answer : Pairing → Result (List Edge) Refusal
+edges_answer p = answered (pairing_reply p.partner p.count) (edges_in p.partner)

@@ -1,5 +1,6 @@
 // The partners on their way into a search and out of it. Outside, a route with no partner has none; inside, it is its own
-// partner, so that every cell of a route holds a route.
+// partner, so that every cell of a route holds a route. None is a number here, since the tables of the definition of the
+// search (`theory`) are lists of numbers.
 #![tactic(auto)]
 
 ghost use Rattle.std.specs.Prelude.{◌≡◌};
@@ -27,11 +28,9 @@ fn own_or(n: u32, p: &[u32; ROUTES], v: u32) -> u32
 pub fn inward(n: u32, p: &[u32; ROUTES], k: u32, m: &mut [u32; ROUTES])
     ensures { m.new ≡ inward routes n p.now k m.old }
 {
-    let mut i = 0;
-    while i < k {
+    for i in 0..k {
         let w = own_or(n, p, i);
         put(m, i, w);
-        i += 1;
     }
 }
 
@@ -50,10 +49,8 @@ fn none_or(m: &[u32; ROUTES], v: u32) -> u32
 pub fn outward(m: &[u32; ROUTES], k: u32, p: &mut [u32; ROUTES])
     ensures { p.new ≡ outward routes m.now k p.old }
 {
-    let mut i = 0;
-    while i < k {
+    for i in 0..k {
         let w = none_or(m, i);
         put(p, i, w);
-        i += 1;
     }
 }

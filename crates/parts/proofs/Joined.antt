@@ -1,15 +1,14 @@
 -- Joining parts along a row and row by row, turn by turn. Assumes nothing.
-use Prim.Native.Nat.{ℕ, zero, suc, ◌+◌, ◌/◌, ◌≤◌, ◌<◌}
-use mathlib.Core.Path.{◌≡◌, refl, sym, ap, ◌∙◌}
-use mathlib.Core.Bool.{Bool, true, false, ◌||◌}
+use Prim.Native.Nat.{ℕ, suc, ◌+◌, ◌/◌, ◌≤◌, ◌<◌}
+use mathlib.Core.Path.{◌≡◌, refl, sym, ◌∙◌}
+use mathlib.Core.Bool.{Bool, true, ◌||◌}
 use mathlib.Core.List.{List, [], ◌∷◌, map}
 use native.Mathlib.Omega.{arith}
 use native.Mathlib.Numerals.{add-one}
-use lib.Dec.{eqb}
 use lib.ListN.{length, get_or, drop, length-map}
 use borrow.Author.Tests.{eq-eqb, ne_eqb}
 use Rattle.limits.specs.Limits.{none}
-use Rattle.graphs.specs.Graph.{Graph, has, in_set, joined}
+use Rattle.graphs.specs.Graph.{has, in_set}
 use Rattle.graphs.specs.Parts.{run, merge, join, link, link_row, link_rows, parts}
 use Rattle.graphs.proofs.Count.{cases}
 use Rattle.graphs.proofs.Parts.{join-equal}
@@ -17,33 +16,33 @@ use Rattle.words.specs.Words.{word, numbers, over}
 use Rattle.words.proofs.Bytes.{over-again, over-end, numbers-at, numbers-length}
 use Rattle.rows.specs.Sheet.{order, stretch, graph_of}
 use Rattle.sheet.specs.Reply.{reply_of}
-use Rattle.replies.specs.declared.Reply.TheVariants.{Accepted}
+use Rattle.limits.specs.Answer.{accepted}
 use Rattle.rows.proofs.Stretches.{has-at}
 use Rattle.sheet.proofs.Read.{simple}
 
 -- ---- an entry, by the tests of the code
 
 module _ (set c : List ℕ) (v w : ℕ) where
-  pub entry-left : get_or set v 0 ≡ 1 → c ≡ link (in_set set) c v w
+  pub entry_left : get_or set v 0 ≡ 1 → c ≡ link (in_set set) c v w
   unfolding link
-  entry-left h = rw (eq-eqb _ _ h)
+  entry_left h = rw (eq-eqb _ _ h)
 
   module _ (a : get_or set v 0 ≡ 1 → ⊥) where
-    pub entry-right : get_or set w 0 ≡ 1 → c ≡ link (in_set set) c v w
+    pub entry_right : get_or set w 0 ≡ 1 → c ≡ link (in_set set) c v w
     unfolding link
-    entry-right h = rw (ne_eqb _ _ a, eq-eqb _ _ h)
+    entry_right h = rw (ne_eqb _ _ a, eq-eqb _ _ h)
 
     module _ (b : get_or set w 0 ≡ 1 → ⊥) where
       joins : link (in_set set) c v w ≡ join c v w
       unfolding link
       joins = rw (ne_eqb _ _ a, ne_eqb _ _ b)
 
-      pub entry-same : get_or c v 0 ≡ get_or c w 0 → c ≡ link (in_set set) c v w
-      entry-same h = sym (joins ∙ join-equal c v w h)
+      pub entry_same : get_or c v 0 ≡ get_or c w 0 → c ≡ link (in_set set) c v w
+      entry_same h = sym (joins ∙ join-equal c v w h)
 
-      pub entry-merged : (d : List ℕ) → d ≡ map (merge (get_or c v 0) (get_or c w 0)) c → d ≡ link (in_set set) c v w
+      pub entry_merged : (d : List ℕ) → d ≡ map (merge (get_or c v 0) (get_or c w 0)) c → d ≡ link (in_set set) c v w
       unfolding join
-      entry-merged d h = h ∙ sym joins
+      entry_merged d h = h ∙ sym joins
 
 pub link-length : (A : ℕ → Bool) (c : List ℕ) (v w : ℕ) → length (link A c v w) ≡ length c
 unfolding link join
@@ -93,7 +92,7 @@ module _ (s : List ℕ) (A : ℕ → Bool) where
   rows_end v n c e h l p = let k : v ≡ order s = omega arith in rw k at p
 
 -- the entries of an accepted sheet's row are routes
-pub entry-below : (s row : List ℕ) (v i : ℕ) → reply_of s ≡ Accepted → v < order s → row ≡ stretch s v → i < length row / 4 → word row i < order s
+pub entry-below : (s row : List ℕ) (v i : ℕ) → reply_of s ≡ accepted → v < order s → row ≡ stretch s v → i < length row / 4 → word row i < order s
 entry-below s row v i ok l e h =
     let at : get_or (numbers row) i none ≡ word row i = numbers-at row i in
     let there : has (numbers row) (get_or (numbers row) i none) ≡ true = has-at (numbers row) i none (omega (arith, numbers-length row)) in

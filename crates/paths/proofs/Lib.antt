@@ -1,4 +1,4 @@
--- For the crates above: Replies and Exactly (when each refusal is given). Steps is for the proofs of this crate's functions alone.
+-- For the crates above: Replies and Exactly (when each refusal is given), Ids (what is read at a position).
 pub mod Replies
 pub mod Exactly
-mod Steps
+pub mod Ids

@@ -3,71 +3,30 @@
 #![tactic(auto)]
 
 ghost use Rattle.std.specs.Prelude.{◌≡◌};
-ghost use Rattle.mates.specs.Partners.{id_at};
-ghost use Rattle.paths.specs.Paths.{unknown, self_pair, path_reply};
+ghost use Rattle.paths.specs.Paths.{path_reply};
 
-use limits::NONE;
 use mates::IDS;
-use refusals::Refusal;
-
-// The id at a position of a path. Past its end there is none.
-pub fn id_at(path: &[u32], k: usize) -> u32
-    ensures { result ≡ id_at path.now k }
-{
-    if k < path.len() { path[k] } else { NONE }
-}
-
-// The lowest position of an id that is not below the limit, or the length.
-fn unknown(path: &[u32]) -> usize
-    ensures { result ≡ unknown path.now }
-{
-    let mut k = 0;
-    while k < path.len() {
-        if IDS <= id_at(path, k) {
-            return k;
-        }
-        k += 1;
-    }
-    k
-}
-
-// The first pair of an id with itself, or the number of pairs.
-fn self_pair(path: &[u32]) -> usize
-    ensures { result ≡ self_pair path.now }
-{
-    let pairs = path.len() / 2;
-    let mut k = 0;
-    while k < pairs {
-        if id_at(path, 2 * k) == id_at(path, 2 * k + 1) {
-            return k;
-        }
-        k += 1;
-    }
-    k
-}
+use refusals::{Refusal, Reply};
 
 // 13, then 14 over all the path, then 15 over all its pairs.
-#[tactic(auto, unfolding(crate::specs::Paths::path_reply))]
-pub fn path_refusal(path: &[u32]) -> Refusal
+pub fn path_refusal(path: &[u32]) -> Reply
     ensures { result ≡ path_reply path.now }
 {
     let count = path.len();
     if count % 2 == 1 {
-        return Refusal::OddPath { count };
+        return Err(Refusal::OddPath { count });
     }
-    let position = unknown(path);
-    if position < count {
-        return Refusal::NoSuchId {
-            position,
-            id: id_at(path, position),
-        };
+    for (position, id) in path.iter().enumerate() {
+        if IDS <= *id {
+            return Err(Refusal::NoSuchId { position, id: *id });
+        }
     }
-    let k = self_pair(path);
-    if k < count / 2 {
-        return Refusal::SelfPair {
-            position: 2 * k,
-            id: id_at(path, 2 * k),
-        };
+    for k in 0..count / 2 {
+        let position = 2 * k;
+        let id = path[position];
+        if id == path[position + 1] {
+            return Err(Refusal::SelfPair { position, id });
+        }
     }
-    Refusal::Accepted
+    Ok(())
 }

@@ -7,17 +7,16 @@ ghost use Rattle.words.specs.Words.{numbers};
 ghost use Rattle.places.specs.Places.{kept, keep, last_places};
 
 use limits::ROUTES;
-use words::word_at;
+use words::numbers_of;
 
 // The place kept for w.
 pub fn kept(t: &[usize; ROUTES], w: u32) -> usize
     ensures { result ≡ kept t.now w }
 {
-    let k = w as usize;
-    if k < ROUTES { t[k] } else { 0 }
+    t.get(w as usize).copied().unwrap_or(0)
 }
 
-// The place of w set to i.
+// The place of w set to i. By its index: the contract of `get_mut` does not say what the table ends as.
 fn keep(t: &mut [usize; ROUTES], w: u32, i: usize)
     ensures { t.new ≡ keep t.old w i }
 {
@@ -31,10 +30,7 @@ fn keep(t: &mut [usize; ROUTES], w: u32, i: usize)
 pub fn keep_places(row: &[u8], t: &mut [usize; ROUTES])
     ensures { t.new ≡ last_places t.old (numbers row.now) }
 {
-    let m = row.len() / 4;
-    let mut i = 0;
-    while i < m {
-        keep(t, word_at(row, i), i);
-        i += 1;
+    for (i, w) in numbers_of(row).enumerate() {
+        keep(t, w, i);
     }
 }

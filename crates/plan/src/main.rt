@@ -6,7 +6,7 @@ ghost use Rattle.std.specs.Prelude.{◌≡◌, IfSome, IfOk, OnOk, take};
 ghost use Rattle.std.specs.Io.KnownBytes.{Appends};
 ghost use Rattle.report.specs.Text.{text_of};
 
-use report::{ROOM, report};
+use report::report;
 use std::alloc::Global;
 use std::io;
 use std::io::{Read, Write};
@@ -27,9 +27,8 @@ fn read_input<R: Read + Drop>(alloc: Global, from: R) -> io::Result<Vec<u8>>
 fn write_report<W: Write>(input: &[u8], to: &mut W) -> io::Result<()>
     ensures { OnOk result (Appends (W.contents to.old) (W.contents to.new) (text_of input.now)) }
 {
-    let mut out = [0u8; ROOM];
-    let k = report(input, &mut out);
-    to.write_all(&out[..k])
+    let text = report(input);
+    to.write_all(text.as_slice())
 }
 
 // Writes what the report says of the bytes that are left to read, all of them.

@@ -6,7 +6,7 @@ ghost use Rattle.std.specs.Prelude.{OnOk};
 ghost use Rattle.std.specs.Io.KnownBytes.{Appends};
 ghost use Rattle.report.specs.Text.{text_of};
 
-use report::{ROOM, report};
+use report::report;
 use std::io;
 use std::io::{BufWriter, Write};
 
@@ -17,9 +17,8 @@ const INPUT: usize = 65537;
 fn given<W: Write>(to: &mut W, input: &[u8]) -> io::Result<()>
     ensures { OnOk result (Appends (W.contents to.old) (W.contents to.new) (text_of input.now)) }
 {
-    let mut out = [0u8; ROOM];
-    let k = report(input, &mut out);
-    to.write_all(&out[..k])
+    let text = report(input);
+    to.write_all(text.as_slice())
 }
 
 // Inputs that are no sheet.

@@ -1,12 +1,13 @@
 // The reader as three functions, for runs from Rust; no part of the boundary. Each call reads the whole sheet and hands
-// out one of the three numbers of its reply. The crate `probe_c` exports them.
+// out one of the three numbers of its reply: three functions, since an exported one hands out one number. The crate
+// `probe_c` exports them.
 #![tactic(auto)]
 
 ghost use Rattle.std.specs.Prelude.{◌≡◌};
 ghost use Rattle.replies.specs.Reply.{told_of};
 ghost use Rattle.sheet.specs.Reply.{reply_of};
 
-use replies::tell;
+use limits::tell;
 use sheet::check;
 
 // The reply's number.

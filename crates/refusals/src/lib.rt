@@ -3,16 +3,13 @@
 #![tactic(auto)]
 
 ghost use Rattle.std.specs.Prelude.{◌≡◌};
-ghost use Rattle.limits.specs.Answer.{told};
-ghost use Rattle.refusals.specs.Reply.{told_of, refuses, first};
+ghost use Rattle.refusals.specs.Reply.{refused_as};
 
 use limits::{ROUTES, Told};
 
 // Why an operation is refused.
 #[derive(Clone, Copy)]
 pub enum Refusal {
-    // nothing to refuse
-    Accepted,
     // 10: a partner that is neither none nor below the limit, is the id itself, or does not name the id back
     BadPartner { id: u32, value: u32 },
     // 10: a kept count that is not the number of paired ids
@@ -27,49 +24,45 @@ pub enum Refusal {
     Unpaired { id: u32 },
 }
 
-// The answer with this number and these details.
-fn answer(no: u32, a: u64, b: u64) -> Told
-    ensures { result ≡ told no a b }
-{
-    Told { no, a, b }
-}
+// What a check of an operation answers.
+pub type Reply = Result<(), Refusal>;
 
-// Number, A and B of a reply.
-pub fn tell(r: Refusal) -> Told
-    ensures { result ≡ told_of r }
-{
-    match r {
-        Refusal::Accepted => answer(0, 0, 0),
-        Refusal::BadPartner { id, value } => answer(10, id as u64, value as u64),
-        Refusal::WrongCount { count } => answer(10, ROUTES as u64, count as u64),
-        Refusal::OddPath { count } => answer(13, count as u64, 0),
-        Refusal::NoSuchId { position, id } => answer(14, position as u64, id as u64),
-        Refusal::SelfPair { position, id } => answer(15, position as u64, id as u64),
-        Refusal::Unpaired { id } => answer(16, id as u64, 0),
-    }
-}
+// Number, A and B of each refusal.
+impl From<Refusal> for Told {
+    ghost from_gives = { λ r t. t ≡ refused_as r };
 
-// Whether a reply refuses.
-pub fn refuses(r: Refusal) -> bool
-    ensures { result ≡ refuses r }
-{
-    match r {
-        Refusal::Accepted => false,
-        Refusal::BadPartner { id: _, value: _ } => true,
-        Refusal::WrongCount { count: _ } => true,
-        Refusal::OddPath { count: _ } => true,
-        Refusal::NoSuchId { position: _, id: _ } => true,
-        Refusal::SelfPair { position: _, id: _ } => true,
-        Refusal::Unpaired { id: _ } => true,
+    fn from(refusal: Refusal) -> Told {
+        match refusal {
+            Refusal::BadPartner { id, value } => Told {
+                no: 10,
+                a: u64::from(id),
+                b: u64::from(value),
+            },
+            Refusal::WrongCount { count } => Told {
+                no: 10,
+                a: ROUTES as u64,
+                b: u64::from(count),
+            },
+            Refusal::OddPath { count } => Told {
+                no: 13,
+                a: count as u64,
+                b: 0,
+            },
+            Refusal::NoSuchId { position, id } => Told {
+                no: 14,
+                a: position as u64,
+                b: u64::from(id),
+            },
+            Refusal::SelfPair { position, id } => Told {
+                no: 15,
+                a: position as u64,
+                b: u64::from(id),
+            },
+            Refusal::Unpaired { id } => Told {
+                no: 16,
+                a: u64::from(id),
+                b: 0,
+            },
+        }
     }
-}
-
-// The first of two replies that refuses.
-pub fn first(x: Refusal, y: Refusal) -> Refusal
-    ensures { result ≡ first x y }
-{
-    if refuses(x) {
-        return x;
-    }
-    y
 }

@@ -4,7 +4,7 @@
 #![tactic(auto)]
 
 use printing::{field, write};
-use samples::{ALL, count, front, is_told, line_end, long_at, number_from, sheet_length};
+use samples::{ALL, front, is_told, long_at, number_from, put_pair, sheet_length};
 use std::alloc::Global;
 use std::fs::File;
 use std::io;
@@ -25,73 +25,92 @@ const SHEET: usize = 16384;
 // Room for the bytes of a pairing.
 const PAIRING: usize = 256;
 
-// What comes of a line: refused alike.
-const REFUSED: u32 = 0;
+// What comes of a line.
+#[derive(Clone, Copy)]
+enum Outcome {
+    // refused alike
+    Refused,
+    // the same pairs
+    Pairs,
+    // as many pairs
+    Size,
+    // something else
+    Different,
+}
 
-// The same pairs.
-const PAIRS: u32 = 1;
+// How many lines came to each outcome.
+#[derive(Clone, Copy, Default)]
+struct Counted {
+    refused: u64,
+    pairs: u64,
+    size: u64,
+    different: u64,
+}
 
-// As many pairs.
-const SIZE: u32 = 2;
-
-// Something else.
-const DIFFERENT: u32 = 3;
-
-// How many of these there are.
-const KINDS: usize = 4;
-
-// A line that is passed over, and not counted.
-const PASSED: u32 = 4;
-
-// So many numbers of a line, from a place on, put as words of the sheet; the answer is the place behind them.
-fn copy(line: &[u8], at: usize, sheet: &mut [u8; SHEET], word: u32, count: u32) -> usize {
-    let mut next = at;
-    let mut k = 0;
-    while k < count {
-        let r = number_from(line, next);
-        put_word(sheet, word as usize + k as usize, r.x);
-        next = r.next;
-        k += 1;
+impl Counted {
+    // One line more of an outcome.
+    fn add(&mut self, outcome: Outcome) {
+        let count = match outcome {
+            Outcome::Refused => &mut self.refused,
+            Outcome::Pairs => &mut self.pairs,
+            Outcome::Size => &mut self.size,
+            Outcome::Different => &mut self.different,
+        };
+        *count = count.saturating_add(1);
     }
-    next
 }
 
-// The n + 1 starts and as many entries as the last of them says, behind n. The answer is the place behind them.
-fn put_rows(line: &[u8], at: usize, sheet: &mut [u8; SHEET], n: u32) -> usize {
-    if MOST < n as usize {
-        return at;
+// The numbers of a line, read one after the other.
+#[derive(Drop)]
+struct Numbers<'a> {
+    line: &'a [u8],
+    at: usize,
+}
+
+impl<'a> Numbers<'a> {
+    // Those of the line, from its start on.
+    fn of(line: &'a [u8]) -> Numbers<'a> {
+        Numbers { line, at: 0 }
     }
-    let next = copy(line, at, sheet, 1, n + 1);
-    let total = word_at(sheet, n as usize + 1);
-    copy(line, next, sheet, n + 2, total)
-}
 
-// The sheet that a line begins with. The answer is the place behind it.
-fn put_sheet(line: &[u8], sheet: &mut [u8; SHEET]) -> usize {
-    let n = number_from(line, 0);
-    put_word(sheet, 0, n.x);
-    put_rows(line, n.next, sheet, n.x)
-}
-
-// v and w become partners.
-fn pair_up(pairing: &mut [u8; PAIRING], v: u32, w: u32) {
-    put_word(pairing, v as usize, w);
-    put_word(pairing, w as usize, v);
-}
-
-// The pairs of the start, which say first how many they are. The answer is the place behind them.
-fn put_start(line: &[u8], at: usize, pairing: &mut [u8; PAIRING]) -> usize {
-    let count = number_from(line, at);
-    let mut next = count.next;
-    let mut k = 0;
-    while k < count.x {
-        let v = number_from(line, next);
-        let w = number_from(line, v.next);
-        pair_up(pairing, v.x, w.x);
-        next = w.next;
-        k += 1;
+    // The next one; none behind the last.
+    fn read(&mut self) -> u32 {
+        let number = number_from(self.line, self.at);
+        self.at = number.next;
+        number.x
     }
-    next
+}
+
+// So many numbers of a line, put as words of the sheet from a word on.
+fn copy(numbers: &mut Numbers<'_>, sheet: &mut [u8; SHEET], word: u32, count: u32) {
+    for k in 0..count {
+        put_word(sheet, word as usize + k as usize, numbers.read());
+    }
+}
+
+// The n + 1 starts and as many entries as the last of them says, behind n.
+fn put_rows(numbers: &mut Numbers<'_>, sheet: &mut [u8; SHEET], n: u32) {
+    if n as usize <= MOST {
+        copy(numbers, sheet, 1, n + 1);
+        let total = word_at(sheet, n as usize + 1);
+        copy(numbers, sheet, n + 2, total);
+    }
+}
+
+// The sheet that a line begins with.
+fn put_sheet(numbers: &mut Numbers<'_>, sheet: &mut [u8; SHEET]) {
+    let n = numbers.read();
+    put_word(sheet, 0, n);
+    put_rows(numbers, sheet, n);
+}
+
+// The pairs of the start, which say first how many they are.
+fn put_start(numbers: &mut Numbers<'_>, pairing: &mut [u8; PAIRING]) {
+    for _ in 0..numbers.read() {
+        let v = numbers.read();
+        let w = numbers.read();
+        put_pair(pairing, v, w);
+    }
 }
 
 // The length of the sheet that these bytes begin with.
@@ -101,30 +120,26 @@ fn length_of(sheet: &[u8]) -> usize {
 }
 
 // Whether number k of an answer is what gamma said.
-fn same(answer: &[u8], k: u32, said: samples::Read) -> bool {
-    long_at(answer, k) == said.x as u64
+fn same(answer: &[u8], k: u32, said: u32) -> bool {
+    long_at(answer, k) == u64::from(said)
 }
 
-// Whether an answer is the refusal that stands at a place: number, A and B.
-fn same_refusal(line: &[u8], at: usize, answer: &[u8]) -> bool {
-    let no = number_from(line, at);
-    let a = number_from(line, no.next);
-    let b = number_from(line, a.next);
+// Whether an answer is the refusal that comes next: number, A and B.
+fn same_refusal(numbers: &mut Numbers<'_>, answer: &[u8]) -> bool {
+    let no = numbers.read();
+    let a = numbers.read();
+    let b = numbers.read();
     same(answer, 0, no) && same(answer, 1, a) && same(answer, 2, b)
 }
 
-// Whether a pairing has so many pairs that stand from a place on.
-fn has_pairs(line: &[u8], at: usize, count: u32, pairing: &[u8]) -> bool {
-    let mut next = at;
-    let mut k = 0;
-    while k < count {
-        let v = number_from(line, next);
-        let w = number_from(line, v.next);
-        if word_at(pairing, v.x as usize) != w.x {
+// Whether a pairing has so many pairs that come next.
+fn has_pairs(numbers: &mut Numbers<'_>, count: u32, pairing: &[u8]) -> bool {
+    for _ in 0..count {
+        let v = numbers.read();
+        let w = numbers.read();
+        if word_at(pairing, v as usize) != w {
             return false;
         }
-        next = w.next;
-        k += 1;
     }
     true
 }
@@ -140,129 +155,100 @@ fn finished(answer: &[u8]) -> bool {
     long_at(answer, 0) == 0 && long_at(answer, 5) == 1
 }
 
-// What comes of a line whose size or pairs stand at a place.
-fn compare_pairs(line: &[u8], at: usize, pairing: &[u8], answer: &[u8]) -> u32 {
-    let exact = number_from(line, at);
-    let size = number_from(line, exact.next);
-    if !finished(answer) {
-        return DIFFERENT;
+// What comes of a line whose size or pairs come next.
+fn compare_pairs(numbers: &mut Numbers<'_>, pairing: &[u8], answer: &[u8]) -> Outcome {
+    let exact = numbers.read() != 0;
+    let size = numbers.read();
+    if !finished(answer) || !same(answer, 4, size) {
+        return Outcome::Different;
     }
-    if !same(answer, 4, size) {
-        return DIFFERENT;
+    if !exact {
+        return Outcome::Size;
     }
-    if exact.x == 0 {
-        return SIZE;
+    if has_pairs(numbers, size, pairing) {
+        return Outcome::Pairs;
     }
-    if has_pairs(line, size.next, size.x, pairing) {
-        return PAIRS;
-    }
-    DIFFERENT
+    Outcome::Different
 }
 
-// What comes of a line whose answer stands at a place.
+// What comes of a line whose answer comes next.
 fn compare(
-    line: &[u8],
-    at: usize,
+    numbers: &mut Numbers<'_>,
     sheet: &[u8],
     pairing: &[u8],
     witness: &[u8],
     answer: &[u8],
-) -> u32 {
-    let refused = number_from(line, at);
-    if refused.x == 1 {
-        if same_refusal(line, refused.next, answer) {
-            return REFUSED;
+) -> Outcome {
+    if numbers.read() == 1 {
+        if same_refusal(numbers, answer) {
+            return Outcome::Refused;
         }
-        return DIFFERENT;
+        return Outcome::Different;
     }
     if !accepted(sheet, pairing, witness) {
-        return DIFFERENT;
+        return Outcome::Different;
     }
-    compare_pairs(line, refused.next, pairing, answer)
+    compare_pairs(numbers, pairing, answer)
 }
 
 // Improves the pairing without limit, and compares.
-fn improve(line: &[u8], at: usize, sheet: &[u8], pairing: &mut [u8], witness: &mut [u8]) -> u32 {
+fn improve(
+    numbers: &mut Numbers<'_>,
+    sheet: &[u8],
+    pairing: &mut [u8],
+    witness: &mut [u8],
+) -> Outcome {
     let mut answer = [0u8; 56];
     wisharek_improve(sheet, pairing, witness, ALL, &mut answer);
-    compare(line, at, sheet, pairing, witness, &answer)
+    compare(numbers, sheet, pairing, witness, &answer)
 }
 
 // The same of a sheet in a larger buffer, with the buffers of its routes.
-fn fitted(line: &[u8], at: usize, sheet: &[u8], pairing: &mut [u8]) -> u32 {
+fn fitted(numbers: &mut Numbers<'_>, sheet: &[u8], pairing: &mut [u8]) -> Outcome {
     let mut witness = [0u8; MOST];
-    let z = 0;
     let n = word_at(sheet, 0) as usize;
-    if MOST < n {
-        return DIFFERENT;
-    }
-    let end = 4 * n;
-    if pairing.len() < end {
-        return DIFFERENT;
+    if MOST < n || pairing.len() < 4 * n {
+        return Outcome::Different;
     }
     improve(
-        line,
-        at,
+        numbers,
         front(sheet, length_of(sheet)),
-        &mut pairing[z..end],
-        &mut witness[z..n],
+        &mut pairing[..4 * n],
+        &mut witness[..n],
     )
 }
 
-// The same with the sheet and the start put in place.
-fn placed(line: &[u8], sheet: &mut [u8; SHEET], pairing: &mut [u8; PAIRING]) -> u32 {
-    let at = put_sheet(line, sheet);
-    let said = put_start(line, at, pairing);
-    fitted(line, said, sheet, pairing)
-}
-
-// A line: one that begins with # is passed over.
-fn replay_line(line: &[u8]) -> u32 {
+// What comes of a line; nothing of one that is empty or begins with #.
+fn replay_line(line: &[u8]) -> Option<Outcome> {
+    if !is_told(line) {
+        return None;
+    }
     let mut sheet = [0u8; SHEET];
     let mut pairing = [255u8; PAIRING];
-    if !is_told(line) {
-        return PASSED;
-    }
-    placed(line, &mut sheet, &mut pairing)
+    let mut numbers = Numbers::of(line);
+    put_sheet(&mut numbers, &mut sheet);
+    put_start(&mut numbers, &mut pairing);
+    Some(fitted(&mut numbers, &sheet, &mut pairing))
 }
 
-// All lines, in turn.
-fn replay(text: &[u8], counted: &mut [u64; KINDS]) {
-    let mut at = 0;
-    while at < text.len() {
-        let end = line_end(text, at);
-        count(counted, replay_line(&text[at..end]));
-        at = end + 1;
+// What comes of all lines.
+fn replay(text: &[u8]) -> Counted {
+    let mut counted = Counted::default();
+    for line in text.split(|b| *b == b'\n') {
+        if let Some(outcome) = replay_line(line) {
+            counted.add(outcome);
+        }
     }
-}
-
-// Writes the words before a count, and the count.
-fn put_count<W: Write>(
-    out: &mut W,
-    words: &[u8],
-    counted: &[u64; KINDS],
-    kind: usize,
-) -> io::Result<()> {
-    if kind < KINDS {
-        return field(out, words, counted[kind]);
-    }
-    Ok(())
+    counted
 }
 
 // Writes what was counted.
-fn put_counts<W: Write>(out: &mut W, counted: &[u64; KINDS]) -> io::Result<()> {
-    put_count(out, b" ", counted, 0)?;
-    put_count(out, b" refused alike, ", counted, 1)?;
-    put_count(out, b" with the same pairs, ", counted, 2)?;
-    put_count(out, b" with as many pairs, ", counted, 3)?;
+fn put_counts<W: Write>(out: &mut W, counted: &Counted) -> io::Result<()> {
+    field(out, b" ", counted.refused)?;
+    field(out, b" refused alike, ", counted.pairs)?;
+    field(out, b" with the same pairs, ", counted.size)?;
+    field(out, b" with as many pairs, ", counted.different)?;
     write(out, b" differences\n")
-}
-
-// Replays a text, and writes what was counted.
-fn report<W: Write>(out: &mut W, text: &[u8]) -> io::Result<()> {
-    let mut counted = [0u64; KINDS];
-    replay(text, &mut counted);
-    put_counts(out, &counted)
 }
 
 // Replays the bytes that were read.
@@ -272,7 +258,7 @@ fn replay_bytes<W: Write>(out: &mut W, path: &str, text: &[u8]) -> io::Result<()
     }
     write(out, path.as_bytes())?;
     write(out, b":")?;
-    report(out, text)
+    put_counts(out, &replay(text))
 }
 
 // Replays what an open file holds.

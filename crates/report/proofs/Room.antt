@@ -1,21 +1,22 @@
 -- Every text has room: how long the lines are. Assumes nothing.
 use Prim.Native.Nat.{ℕ, zero, suc, ◌+◌, ◌*◌, ◌/◌, ◌≤◌, ◌<◌}
-use mathlib.Core.Path.{refl}
 use mathlib.Core.Bool.{◌&&◌}
 use mathlib.Core.List.{List, ◌++◌}
 use native.Mathlib.Omega.{arith}
 use lib.Dec.{ltb}
 use lib.ListN.{length, length-append}
 use borrow.Author.Tests.{lt-ltb}
+use Rattle.std.specs.Prelude.{is_err}
 use Rattle.limits.specs.Limits.{routes}
+use Rattle.limits.proofs.Replies.{not-refused}
 use Rattle.limits.specs.declared.Told.{Told}
 use Rattle.graphs.proofs.Count.{cases, tests}
 use Rattle.rows.specs.Sheet.{order}
 use Rattle.sheet.proofs.Read.{order-most}
 use Rattle.causes.specs.Given.{mate_of, set_of}
-use Rattle.verdicts.specs.Verdict.{told_of, refuses}
+use Rattle.verdicts.specs.Verdict.{told_of}
 use Rattle.witness.specs.Verdict.{improve_verdict}
-use Rattle.witness.proofs.Checker.{passed-improve}
+use Rattle.witness.proofs.Checker.{begins}
 use Rattle.text.specs.Put.{room}
 use Rattle.text.specs.Digits.{digits_in, digits, spaced}
 use Rattle.lines.specs.Lines.{each, refusal, counts, pair_line, pair_lines, member, over_line}
@@ -94,9 +95,9 @@ lines-most n size free sessions p w g = simp length-append (omega (arith, counts
 
 pub plan-most : (s p w : List ℕ) → length (plan_text s p w) ≤ room
 unfolding plan_text
-plan-most s p w = cases (refuses (improve_verdict s p w))
+plan-most s p w = cases (is_err (improve_verdict s p w))
     (λ h. rw h (refusal-most (told_of (improve_verdict s p w))))
-    (λ h. rw h (lines-most (order s) _ _ _ _ _ (order-most s (passed-improve s p w _ _ refl refl h).accepted)))
+    (λ h. rw h (lines-most (order s) _ _ _ _ _ (order-most s (begins s p w (not-refused _ h)).accepted)))
 
 pub text-most : (s : List ℕ) → length (text_of s) ≤ room
 unfolding text_of

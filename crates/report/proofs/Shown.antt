@@ -1,28 +1,28 @@
 -- What an accepted sheet's text shows: no limit means the largest size, and the set after `over` is one that the checker accepts. And the start is never
 -- refused, so that what is refused is the sheet. Assumes nothing.
 use Prim.Native.Nat.{ℕ, ◌+◌, ◌*◌, ◌-◌, ◌≤◌, ◌<◌}
-use mathlib.Core.Path.{◌≡◌, refl, sym, ◌∙◌, subst}
+use mathlib.Core.Path.{◌≡◌, sym, ◌∙◌, subst}
 use mathlib.Core.Logic.{inl}
 use mathlib.Core.Bool.{false, ◌&&◌}
 use mathlib.Core.List.{List}
 use native.Mathlib.Omega.{arith}
 use lib.Dec.{ltb}
 use lib.ListN.{length-replicate, get_or-replicate}
+use Rattle.std.specs.Prelude.{is_err}
 use Rattle.limits.specs.Limits.{routes, none}
+use Rattle.limits.specs.Answer.{accepted}
+use Rattle.limits.proofs.Replies.{not-refused}
 use Rattle.graphs.specs.Largest.{Largest}
 use Rattle.graphs.specs.Pairing.{pairs, paired}
 use Rattle.graphs.proofs.Count.{count-le}
 use Rattle.rows.specs.Sheet.{order, graph_of}
 use Rattle.words.proofs.Bytes.{word-there}
 use Rattle.sheet.specs.Reply.{reply_of}
-use Rattle.replies.specs.declared.Reply.TheVariants as sheet
 use Rattle.sheet.proofs.Read.{order-most}
 use Rattle.causes.specs.Given.{mate_of}
-use Rattle.verdicts.specs.Verdict.{refuses}
 use Rattle.witness.specs.Verdict.{improve_verdict, check_of}
 use Rattle.witness.specs.Promise.{Begins}
-use Rattle.verdicts.specs.declared.Verdict.TheVariants.{Accepted}
-use Rattle.witness.proofs.Checker.{passed-improve, begins-accepted}
+use Rattle.witness.proofs.Checker.{begins, begins-accepted}
 use Rattle.buffers.specs.Held.{size_of, sessions_of}
 use Rattle.improve.specs.Choice.{last, witness_by, finished_by, pairing_after, witness_after, size_after}
 use Rattle.improve.specs.Promise.{Means}
@@ -30,9 +30,9 @@ use Rattle.report.specs.Text.{no_limit, no_pairs, no_members}
 use Rattle.improve.proofs.Meaning.{means}
 use Rattle.improve.proofs.Calls.{left, left_is, witness-is}
 
-module _ (s p w : List ℕ) (h : refuses (improve_verdict s p w) ≡ false) where
+module _ (s p w : List ℕ) (h : is_err (improve_verdict s p w) ≡ false) where
   begun : Begins s p w
-  begun = passed-improve s p w _ _ refl refl h
+  begun = begins s p w (not-refused _ h)
 
   meant : Means s p (left s p w no_limit) w (witness_by (last s p no_limit) w) no_limit (size_of s (left s p w no_limit) - size_of s p) (size_of s (left s p w no_limit)) (finished_by (last s p no_limit)) (sessions_of s (left s p w no_limit))
   meant = means s p w begun no_limit
@@ -60,11 +60,11 @@ module _ (s p w : List ℕ) (h : refuses (improve_verdict s p w) ≡ false) wher
   size-largest = rw (h, left_is s p w no_limit h) (subst (Largest (graph_of s)) (sym full) meant.largest)
 
   -- the pairs and the set that are written are accepted by the checker
-  pub set-shows : check_of s (pairing_after s p w no_limit) (witness_after s p w no_limit) ≡ Accepted
+  pub set-shows : check_of s (pairing_after s p w no_limit) (witness_after s p w no_limit) ≡ accepted
   set-shows = rw (left_is s p w no_limit h, witness-is s p w no_limit h) (meant.shown (meant.exactly.1 full))
 
 -- the start is a pairing of any accepted sheet
-module _ (s : List ℕ) (ok : reply_of s ≡ sheet.Accepted) where
+module _ (s : List ℕ) (ok : reply_of s ≡ accepted) where
   start-partner : (v : ℕ) → v < order s → mate_of (no_pairs s) v ≡ none
   start-partner v h =
       word-there (no_pairs s) v (simp length-replicate (omega arith))
@@ -78,7 +78,7 @@ module _ (s : List ℕ) (ok : reply_of s ≡ sheet.Accepted) where
   alone : {C : Type 0} (v : ℕ) → v < order s → mate_of (no_pairs s) v < order s → C
   alone v h g = absurd (omega (arith, start-partner v h, order-most s ok))
 
-  pub start-accepted : improve_verdict s (no_pairs s) (no_members s) ≡ Accepted
+  pub start-accepted : improve_verdict s (no_pairs s) (no_members s) ≡ accepted
   start-accepted = begins-accepted s (no_pairs s) (no_members s) (record {
     accepted = ok;
     partners = record {

@@ -1,14 +1,17 @@
 -- The whole text, over plain variables. Assumes nothing.
 use Prim.Native.Nat.{ℕ, zero, suc, ◌+◌, ◌-◌, ◌*◌, ◌≤◌, ◌<◌, min}
 use mathlib.Core.Path.{◌≡◌, refl, sym, ap, ◌∙◌}
-use mathlib.Core.Bool.{Bool, true, false}
+use mathlib.Core.Bool.{true}
 use mathlib.Core.List.{List, [], ◌∷◌, ◌++◌}
 use native.Mathlib.Omega.{arith}
 use lib.Dec.{ltb}
-use lib.ListN.{length, take, drop, replicate, length-append, length-take, length-replicate}
-use lib.Seq.{take_all, length-take-le}
+use lib.ListN.{length, take, replicate, length-replicate}
+use lib.Seq.{take_all}
 use borrow.Author.Tests.{ltb-true, ltb-false, lt-ltb, le-ltb}
+use Rattle.std.specs.Prelude.{Err, is_err}
 use Rattle.limits.specs.Limits.{routes}
+use Rattle.limits.specs.Answer.{accepted}
+use Rattle.limits.proofs.Replies.{not-refused}
 use Rattle.limits.specs.declared.Told.{Told}
 use Rattle.graphs.specs.Pairing.{unpaired, sessions}
 use Rattle.graphs.proofs.Count.{cases}
@@ -16,35 +19,36 @@ use Rattle.graphs.proofs.Pairing.{pairs-unpaired}
 use Rattle.rows.specs.Sheet.{order, graph_of}
 use Rattle.sheet.proofs.Read.{order-most, simple}
 use Rattle.causes.specs.Given.{mate_of}
-use Rattle.verdicts.specs.Verdict.{told_of, refuses, sheet_verdict}
+use Rattle.verdicts.specs.Verdict.{told_of, refused_as, sheet_verdict}
 use Rattle.witness.specs.Verdict.{improve_verdict}
 use Rattle.witness.specs.Promise.{Begins}
-use Rattle.verdicts.specs.declared.Verdict.{Verdict}
-use Rattle.witness.proofs.Checker.{passed-sheet, passed-improve, begins-accepted}
+use Rattle.verdicts.specs.declared.Refusal.{Refusal}
+use Rattle.witness.proofs.Checker.{passed-sheet, begins}
 use Rattle.buffers.specs.Held.{size_of, sessions_of}
 use Rattle.improve.specs.Promise.{Means, Improve}
-use Rattle.text.specs.Put.{room, Appends}
-use Rattle.text.proofs.Putting.{then, same}
+use Rattle.text.specs.Put.{room, followed_by}
+use Rattle.text.proofs.Putting.{then}
 use Rattle.lines.specs.Lines.{refusal, counts, pair_lines, over_line}
-use Rattle.report.specs.Text.{no_limit, too_long, plan_text, text_of, no_pairs, no_members, Reports}
+use Rattle.report.specs.Text.{no_limit, too_long, plan_text, text_of, no_pairs, no_members}
 use Rattle.report.specs.Start.{unpaired_start, empty_set}
 use Rattle.report.proofs.Room.{text-most}
 
+-- three things one after the other
+three : (t a b u xs ys zs : List ℕ) → a ≡ followed_by t xs → b ≡ followed_by a ys → u ≡ followed_by b zs → u ≡ followed_by t (xs ++ ys ++ zs)
+three t a b u xs ys zs ea eb eu = rw (eu, eb, ea, then t xs ys, then t (xs ++ ys) zs) refl
+
 -- an answer of improve as lines
-module _ (s p p' w w' : List ℕ) (r : Verdict) (added size finished ended : ℕ) (I : Improve s p p' w w' no_limit r added size finished ended) (t : Bool) (et : t ≡ refuses r) where
-  verdict-is : (b : Bool) → t ≡ b → refuses (improve_verdict s p w) ≡ b
-  verdict-is b h = ap refuses (sym I.is) ∙ sym et ∙ h
-
-  pub plan-refused : (o₀ o₁ : List ℕ) (q : ℕ) (told : Told) → t ≡ true → told ≡ told_of r → Appends o₀ 0 o₁ q (refusal told) → Appends o₀ 0 o₁ q (plan_text s p w)
+module _ (s p p' w w' : List ℕ) where
+  pub plan-refused : (e : Refusal) → Improve s p p' w w' no_limit (Err e) 0 0 0 0 → (t u : List ℕ) (told : Told) → told ≡ refused_as e → u ≡ followed_by t (refusal told) → u ≡ followed_by t (plan_text s p w)
   unfolding plan_text
-  plan-refused o₀ o₁ q told h e A = same (rw (verdict-is true h) (ap refusal (e ∙ ap told_of I.is))) A
+  plan-refused e I t u told et eu = rw (← I.is, ← et) eu
 
-  module _ (h : t ≡ false) where
+  module _ (added size finished ended : ℕ) (I : Improve s p p' w w' no_limit accepted added size finished ended) where
     begun : Begins s p w
-    begun = passed-improve s p w r t I.is et h
+    begun = begins s p w (sym I.is)
 
     meant : Means s p p' w w' no_limit added size finished ended
-    meant = I.means (I.is ∙ begins-accepted s p w begun)
+    meant = I.means refl
 
     -- the routes are the pairs twice and the unpaired
     shared : size + size + unpaired (graph_of s) (mate_of p') ≡ order s
@@ -61,11 +65,13 @@ module _ (s p p' w w' : List ℕ) (r : Verdict) (added size finished ended : ℕ
     free : ended - size ≡ unpaired (graph_of s) (mate_of p')
     free = omega (arith, shared, left_over)
 
-    pub plan-made : (o₀ o₁ o₂ o₃ : List ℕ) (k₁ k₂ k₃ n : ℕ) → n ≡ order s → Appends o₀ 0 o₁ k₁ (counts n size (ended - size) ended) → Appends o₁ k₁ o₂ k₂ (pair_lines n p') → Appends o₂ k₂ o₃ k₃ (over_line n w')
-        → Appends o₀ 0 o₃ k₃ (plan_text s p w)
+    pub plan-made : (t a b u : List ℕ) (n : ℕ) → n ≡ order s → a ≡ followed_by t (counts n size (ended - size) ended) → b ≡ followed_by a (pair_lines n p') → u ≡ followed_by b (over_line n w') → u ≡ followed_by t (plan_text s p w)
     unfolding plan_text
-    plan-made o₀ o₁ o₂ o₃ k₁ k₂ k₃ n en A B C =
-        same (rw (verdict-is false h, free, en, I.chosen.size_is, I.chosen.sessions-is, I.chosen.pairing-is, I.chosen.witness-is) refl) (then (then A B) C)
+    plan-made t a b u n en ea eb eu =
+        let e : counts n size (ended - size) ended ++ pair_lines n p' ++ over_line n w' ≡ plan_text s p w =
+        rw (← I.is, free, en, I.chosen.size_is, I.chosen.sessions-is, I.chosen.pairing-is, I.chosen.witness-is) refl
+        in
+        rw e at (three t a b u _ _ _ ea eb eu)
 
 -- the start: the first of all the bytes that the code begins with
 take-replicate : (k n a : ℕ) → k ≤ n → take k (replicate n a) ≡ replicate k a
@@ -89,8 +95,8 @@ set_long m n w em ew = sym (ap (λ (l : List ℕ). length (take m l)) ew ∙ ap 
 
 -- a sheet of too many routes is refused whatever is lent with it
 module _ (s : List ℕ) (many : routes < order s) where
-  sheet-refused : refuses (sheet_verdict s) ≡ true
-  sheet-refused = cases (refuses (sheet_verdict s)) (λ h. h) (λ h. absurd (omega (arith, order-most s (passed-sheet s _ _ refl refl h))))
+  sheet-refused : is_err (sheet_verdict s) ≡ true
+  sheet-refused = cases (is_err (sheet_verdict s)) (λ h. h) (λ h. absurd (omega (arith, order-most s (passed-sheet s (not-refused _ h)))))
 
   first-refusal : (p w : List ℕ) → plan_text s p w ≡ refusal (told_of (sheet_verdict s))
   unfolding plan_text improve_verdict
@@ -107,24 +113,18 @@ start-text s m em = cases (ltb routes (order s))
     let e : m ≡ order s = omega arith in
     rw (start_is m (omega arith), set_is m (omega arith), e) refl)
 
--- what a call leaves
-reported : (s out out' : List ℕ) (r : ℕ) → length out ≡ room → Appends out 0 out' r (text_of s) → Reports s out out' r
-reported s out out' r h A =
-    let H = A out [] (record { long = h; is = refl; place = refl }) in
-    let f : r ≤ length out' = rw H.is (simp (length-append, length-take) (omega (arith, H.place))) in
-    record {
-      long = omega (arith, H.place, text-most s);
-      written = H.is ∙ ap (λ (l : List ℕ). l ++ drop r out) (take_all room (text_of s) (text-most s));
-      fits = f;
-      first = sym (length-take-le r out' f);
-    }
+-- what is put into an empty text: all of it, since it has room
+module _ (s t : List ℕ) where
+  reported : (u xs : List ℕ) → xs ≡ text_of s → u ≡ [] → t ≡ followed_by u xs → t ≡ text_of s
+  unfolding followed_by
+  reported u xs e eu h = h ∙ rw (eu, e) (take_all room (text_of s) (text-most s))
 
-pub report-long : (s out out' : List ℕ) (r : ℕ) → length out ≡ room → 65536 < length s → Appends out 0 out' r too_long → Reports s out out' r
-unfolding text_of
-report-long s out out' r h g A = reported s out out' r h (same (rw (lt-ltb 65536 (length s) g) refl) A)
+  pub report-long : (u : List ℕ) → 65536 < length s → u ≡ [] → t ≡ followed_by u too_long → t ≡ text_of s
+  unfolding text_of
+  report-long u g eu h = reported u too_long (rw (lt-ltb 65536 (length s) g) refl) eu h
 
-pub report-plan : (s out out' p w : List ℕ) (r n m : ℕ) → length out ≡ room → length s ≤ 65536 → n ≡ order s → m ≡ min n routes → p ≡ unpaired_start → w ≡ empty_set
-    → Appends out 0 out' r (plan_text s (take (4 * m) p) (take m w)) → Reports s out out' r
-unfolding text_of
-report-plan s out out' p w r n m h g en em ep ew A =
-    reported s out out' r h (same (rw (le-ltb 65536 (length s) g, ep, ew) (start-text s m (em ∙ ap (λ (k : ℕ). min k routes) en))) A)
+  pub report-plan : (u p w : List ℕ) (n m : ℕ) → length s ≤ 65536 → n ≡ order s → m ≡ min n routes → p ≡ unpaired_start → w ≡ empty_set → u ≡ [] → t ≡ followed_by u (plan_text s (take (4 * m) p) (take m w)) → t ≡ text_of s
+  unfolding text_of
+  report-plan u p w n m g en em ep ew eu h =
+      let start = start-text s m (em ∙ ap (λ (k : ℕ). min k routes) en) in
+      reported u _ (rw (le-ltb 65536 (length s) g, ep, ew) start) eu h

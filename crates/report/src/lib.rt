@@ -2,19 +2,17 @@
 // `lines`, which writes each line, and `text`, which puts one thing after the other.
 #![tactic(auto)]
 
-ghost use Rattle.std.specs.Prelude.{◌≡◌, min, length};
+ghost use Rattle.std.specs.Prelude.{◌≡◌, min};
 ghost use Rattle.limits.specs.Limits.{routes};
-ghost use Rattle.text.specs.Put.{room, Appends};
+ghost use Rattle.text.specs.Put.{followed_by};
 ghost use Rattle.report.specs.Start.{unpaired_start, empty_set};
-ghost use Rattle.report.specs.Text.{plan_text, Reports};
+ghost use Rattle.report.specs.Text.{plan_text, text_of};
 
 use improve::improve;
-use limits::ROUTES;
+use limits::{ROUTES, Told};
 use lines::{put_counts, put_over, put_pairs, put_refusal};
 use rows::order;
-pub use text::ROOM;
-use text::put_word;
-use verdicts::{refuses, tell};
+use text::Text;
 
 // The most bytes that are looked at.
 const INPUT: usize = 65536;
@@ -26,25 +24,18 @@ const NO_LIMIT: u32 = 4294967295;
 const PARTNERS: usize = 4 * ROUTES;
 
 // The answer of improve without a limit, from the pairing and witness that are lent.
-fn put_plan(out: &mut [u8; ROOM], s: &[u8], pairing: &mut [u8], witness: &mut [u8]) -> usize
-    ensures { Appends out.old 0 out.new result (plan_text s.now pairing.old witness.old) }
+fn put_plan(text: &mut Text, s: &[u8], pairing: &mut [u8], witness: &mut [u8])
+    ensures { text.new ≡ followed_by text.old (plan_text s.now pairing.old witness.old) }
 {
-    let made = improve(s, pairing, witness, NO_LIMIT);
-    let verdict = made.verdict;
-    if refuses(verdict) {
-        return put_refusal(out, 0, tell(verdict));
+    match improve(s, pairing, witness, NO_LIMIT) {
+        Ok(made) => {
+            let n = order(s);
+            put_counts(text, n, made.size, made.sessions - made.size, made.sessions);
+            put_pairs(text, n, pairing);
+            put_over(text, n, witness);
+        }
+        Err(refusal) => put_refusal(text, Told::from(refusal)),
     }
-    let n = order(s);
-    let a = put_counts(
-        out,
-        0,
-        n,
-        made.size,
-        made.sessions - made.size,
-        made.sessions,
-    );
-    let b = put_pairs(out, a, n, pairing);
-    put_over(out, b, n, witness)
 }
 
 // No partner for any route.
@@ -65,24 +56,21 @@ fn no_members() -> [u8; ROUTES]
 fn at_most(n: u32) -> usize
     ensures { result ≡ min n routes }
 {
-    let m = n as usize;
-    if m < ROUTES {
-        return m;
-    }
-    ROUTES
+    ROUTES.min(n as usize)
 }
 
-// The text for an input, at the start of `out`; its length is answered, and the bytes after it stay as they are. An
-// array of this type always has the length that is asked for.
-pub fn report(input: &[u8], out: &mut [u8; ROOM]) -> usize
-    requires { length out.old ≡ room }
-    ensures { Reports input.now out.old out.new result }
+// The text for an input.
+pub fn report(input: &[u8]) -> Text
+    ensures { result ≡ text_of input.now }
 {
+    let mut text = Text::new();
     if INPUT < input.len() {
-        return put_word(out, 0, b"too long\n");
+        text.put_word(b"too long\n");
+        return text;
     }
     let n = at_most(order(input));
     let mut pairing = no_pairs();
     let mut witness = no_members();
-    put_plan(out, input, &mut pairing[..4 * n], &mut witness[..n])
+    put_plan(&mut text, input, &mut pairing[..4 * n], &mut witness[..n]);
+    text
 }

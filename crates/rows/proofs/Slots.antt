@@ -1,19 +1,18 @@
 -- Slot zero: entry number e is the four bytes from 8 + 4n + 4e on and no others, no two entries share a byte, and each entry number below the total
 -- lies in exactly one row. Assumes nothing.
-use Prim.Native.Nat.{ℕ, zero, suc, ◌+◌, ◌*◌, ◌-◌, ◌/◌, ◌≤◌, ◌<◌, min}
-use mathlib.Core.Path.{◌≡◌, refl, sym, ap, ◌∙◌}
+use Prim.Native.Nat.{ℕ, zero, suc, ◌+◌, ◌*◌, ◌-◌, ◌≤◌, ◌<◌}
+use mathlib.Core.Path.{◌≡◌, sym, ap, ◌∙◌}
 use mathlib.Core.Logic.{⊎_elim}
 use mathlib.Core.List.{List}
 use native.Mathlib.Omega.{arith}
 use native.Mathlib.Numerals.{add-one}
-use native.Mathlib.Nat.{le_refl, le_trans, eq-or-lt_of_le, not-suc-le-zero}
+use native.Mathlib.Nat.{le_refl, le_trans, eq-or-lt_of_le}
 use lib.Dec.{ltb}
 use lib.ListN.{length, get_or, take, drop, length-take, length-drop}
 use lib.Seq.{get_or-take, get_or-drop}
 use borrow.Author.Tests.{ltb-true, ltb-false, lt-ltb, le-leb}
-use Rattle.graphs.specs.Graph.{Graph}
 use Rattle.graphs.proofs.Count.{cases}
-use Rattle.words.specs.Words.{four, word, numbers}
+use Rattle.words.specs.Words.{four, word}
 use Rattle.rows.specs.Sheet.{Shaped, order, start, total, entry, slot, part, stretch, graph_of, named}
 use Rattle.words.proofs.Bytes.{word-there, numbers-length, numbers-at}
 

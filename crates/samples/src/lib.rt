@@ -2,8 +2,6 @@
 // recorded texts and of answers that they read. Nothing is asked of a caller: what finds no room is not put.
 #![tactic(auto)]
 
-ghost use Rattle.std.specs.Prelude.{◌≤◌, ◌<◌, length};
-
 use limits::{NONE, ROUTES};
 use words::{put_word, word_at};
 
@@ -19,16 +17,9 @@ pub const ALL: u32 = 4294967295;
 // Entry numbers end here: no sheet that is accepted has as many entries.
 const ENTRIES: u32 = (ROUTES * ROUTES) as u32;
 
-// Counts end here.
-const COUNTS: u64 = 65536;
-
 // The first bytes of a slice, all of them where there are fewer.
 pub fn front(s: &[u8], bytes: usize) -> &[u8] {
-    let z = 0;
-    if s.len() < bytes {
-        return s;
-    }
-    &s[z..bytes]
+    s.get(..bytes).unwrap_or(s)
 }
 
 // The same of a small sheet.
@@ -46,13 +37,8 @@ pub fn put_words(s: &mut [u8; SMALL], at: usize, words: &[u32]) {
     if SMALL < at {
         return;
     }
-    let mut k = 0;
-    while k < words.len() {
-        if SMALL < k {
-            return;
-        }
-        put_word(s, at + k, words[k]);
-        k += 1;
+    for (k, x) in words.iter().enumerate() {
+        put_word(s, at + k, *x);
     }
 }
 
@@ -68,22 +54,17 @@ pub fn put_ten(s: &mut [u8; SMALL]) {
 // x put as entry number e of a sheet of n routes. The answer is the next entry's number.
 pub fn put_entry(s: &mut [u8; LARGE], n: u32, e: u32, x: u32) -> u32 {
     put_word(s, n as usize + 2 + e as usize, x);
-    if e < ENTRIES {
-        return e + 1;
-    }
-    e
+    if e < ENTRIES { e + 1 } else { e }
 }
 
 // Row v of the sheet in which all of n routes are joined, from entry number e on: the other routes, rising. The answer is
 // the number of the next row's first entry.
 fn put_others(s: &mut [u8; LARGE], n: u32, e: u32, v: u32) -> u32 {
     let mut f = e;
-    let mut w = 0;
-    while w < n {
+    for w in 0..n {
         if w != v {
             f = put_entry(s, n, f, w);
         }
-        w += 1;
     }
     f
 }
@@ -93,39 +74,37 @@ pub fn put_all(s: &mut [u8; LARGE], n: u32) -> u32 {
     put_word(s, 0, n);
     put_word(s, 1, 0);
     let mut e = 0;
-    let mut v = 0;
-    while v < n {
+    for v in 0..n {
         e = put_others(s, n, e, v);
         put_word(s, v as usize + 2, e);
-        v += 1;
     }
     e
+}
+
+// v and w made partners in the bytes of a pairing.
+pub fn put_pair(pairing: &mut [u8], v: u32, w: u32) {
+    put_word(pairing, v as usize, w);
+    put_word(pairing, w as usize, v);
 }
 
 // Number k of an answer, of eight bytes.
 pub fn long_at(answer: &[u8], k: u32) -> u64 {
     let low = 2 * (k as usize);
-    (word_at(answer, low) as u64) + 4294967296 * (word_at(answer, low + 1) as u64)
+    u64::from(word_at(answer, low)) + 4294967296 * u64::from(word_at(answer, low + 1))
 }
 
 // Whether a byte is a digit.
 pub fn is_digit(byte: u8) -> bool {
-    if byte < 48 {
-        return false;
-    }
-    byte <= 57
+    byte.is_ascii_digit()
 }
 
 // One more digit; a number that would be too long for four bytes stays.
 pub fn with_digit(x: u32, byte: u8) -> u32 {
-    if byte < 48 {
+    if byte < b'0' {
         return x;
     }
-    let y = 10 * (x as u64) + (byte - 48) as u64;
-    if (NONE as u64) < y {
-        return x;
-    }
-    y as u32
+    let y = 10 * u64::from(x) + u64::from(byte - b'0');
+    u32::try_from(y).unwrap_or(x)
 }
 
 // A number, and the place behind it.
@@ -135,98 +114,59 @@ pub struct Read {
     pub next: usize,
 }
 
-// The place of the first digit from a place on, or the end.
-pub fn digit_from(s: &[u8], at: usize) -> usize {
-    let mut i = at;
-    while i < s.len() {
+// The place of the first digit from a place on.
+pub fn digit_from(s: &[u8], at: usize) -> Option<usize> {
+    for i in at..s.len() {
         if is_digit(s[i]) {
-            return i;
+            return Some(i);
         }
-        i += 1;
     }
-    i
+    None
 }
 
 // The number whose digits begin at a place.
 fn digits(s: &[u8], at: usize) -> Read {
     let mut x = 0;
-    let mut i = at;
-    while i < s.len() {
+    for i in at..s.len() {
         if !is_digit(s[i]) {
             return Read { x, next: i };
         }
         x = with_digit(x, s[i]);
-        i += 1;
     }
-    Read { x, next: i }
+    Read { x, next: s.len() }
 }
 
-// The first number from a place on; none where there is none.
+// The first number from a place on. Where there is none, it is the number for none: the programs put it into a sheet as it is,
+// so that any line of theirs is a sheet.
 pub fn number_from(s: &[u8], at: usize) -> Read {
-    let i = digit_from(s, at);
-    if s.len() <= i {
-        return Read { x: NONE, next: i };
+    match digit_from(s, at) {
+        Some(first) => digits(s, first),
+        None => Read {
+            x: NONE,
+            next: s.len(),
+        },
     }
-    digits(s, i)
 }
 
-// The place of the next end of a line, or the end of the text.
-pub fn line_end(text: &[u8], at: usize) -> usize
-    requires { at < length text.now }
-    ensures { (at ≤ result) × (result ≤ length text.now) }
-{
-    let mut i = at;
-    while i < text.len() {
-        if text[i] == 10 {
-            return i;
-        }
-        i += 1;
-    }
-    i
-}
-
-// The place of the first such byte of a line, or the end.
-pub fn place_of(line: &[u8], byte: u8) -> usize {
-    let mut i = 0;
-    while i < line.len() {
-        if line[i] == byte {
-            return i;
-        }
-        i += 1;
-    }
-    i
+// The place of the first such byte of a line.
+pub fn place_of(line: &[u8], byte: u8) -> Option<usize> {
+    line.iter().position(|b| *b == byte)
 }
 
 // The numbers of a line from a place on, put as the first words of a sheet: forty at most.
 pub fn put_numbers(s: &mut [u8; LARGE], line: &[u8], at: usize) {
-    let mut next = digit_from(line, at);
-    let mut k = 0;
-    while k < 40 {
-        if line.len() <= next {
+    let mut next = at;
+    for k in 0..40 {
+        let Some(first) = digit_from(line, next) else {
             return;
-        }
-        let r = digits(line, next);
+        };
+        let r = digits(line, first);
         put_word(s, k, r.x);
-        next = digit_from(line, r.next);
-        k += 1;
+        next = r.next;
     }
 }
 
 // Whether a line holds something: it is not empty, and no comment, which begins with #.
 pub fn is_told(line: &[u8]) -> bool {
-    if line.len() == 0 {
-        return false;
-    }
-    line[0] != 35
-}
-
-// One more of a kind, where the table has such a kind.
-pub fn count(t: &mut [u64], kind: u32) {
-    let k = kind as usize;
-    if k < t.len() {
-        let n = t[k];
-        if n < COUNTS {
-            t[k] = n + 1;
-        }
-    }
+    line.first().is_some_and(|b| *b != b'#')
 }

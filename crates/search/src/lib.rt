@@ -1,5 +1,6 @@
-// One search from a pairing: one pair more, or a set of routes that shows that there is none. The tables are local, so a
-// search begins afresh from the partners and leaves nothing behind but its answer.
+// One search from a pairing: one pair more, or a set of routes that shows that there is none. The desk is local, so a search
+// begins afresh from the partners and leaves nothing behind but its answer. It is laid out where it stands: handed out by a
+// function of its own, it would be copied, at each search and on the stack.
 #![tactic(auto)]
 
 ghost use Rattle.limits.specs.Limits.{routes};
@@ -7,12 +8,12 @@ ghost use Rattle.rows.specs.Sheet.{graph_of};
 ghost use Rattle.search.specs.Answer.{Answers};
 
 use expose::augmented;
-use forest::{fill, fill_groups, seed};
+use forest::{fill, seed};
 use limits::{NONE, ROUTES};
 use partners::{inward, outward};
 use queue::run_queue;
 use rows::order;
-use tables::{GROUPS, UNREACHED};
+use tables::{Desk, GROUPS, Line, Rings, Trees, UNREACHED};
 
 // One search: whether a pair more is found. Where it is, p has the new partners. Where it is not, p is as it was, and
 // label has the labels, whose inner routes are the witness.
@@ -20,52 +21,43 @@ pub fn searched(s: &[u8], p: &mut [u32; ROUTES], label: &mut [u32; ROUTES]) -> b
     ensures { Answers routes (graph_of s.now) p.old p.new label.old label.new result }
 {
     let n = order(s);
-    let mut mate = [NONE; ROUTES];
-    let mut parent = [NONE; ROUTES];
-    let mut top = [NONE; ROUTES];
-    let mut root = [NONE; GROUPS];
-    let mut base = [NONE; GROUPS];
-    let mut rank = [0; GROUPS];
-    let mut half = [0; GROUPS];
-    let mut labels = [UNREACHED; ROUTES];
-    let mut queue = [NONE; ROUTES];
-    let mut up = [NONE; GROUPS];
-    let mut next = [NONE; GROUPS];
-    let mut out = [NONE; GROUPS];
-    let mut into = [NONE; GROUPS];
-    inward(n, p, ROUTES as u32, &mut mate);
-    fill(&mut top, n);
-    fill_groups(&mut root, n);
-    fill_groups(&mut base, n);
-    let tail = seed(&mate, &mut labels, &mut queue, 0, n);
-    let z = run_queue(
-        n,
-        s,
-        &mate,
-        &mut parent,
-        &mut top,
-        &mut root,
-        &mut base,
-        &mut rank,
-        &mut half,
-        &mut labels,
-        &mut queue,
-        &mut up,
-        &mut next,
-        &mut out,
-        &mut into,
-        tail,
-        n,
-    );
-    if z.hit {
-        let mut m = mate;
-        augmented(
-            &mate, &parent, &top, &base, &half, &up, &next, &out, &into, z.ids, z.one, z.two,
-            &mut m,
-        );
+    let mut desk = Desk {
+        trees: Trees {
+            order: n,
+            mate: [NONE; ROUTES],
+            parent: [NONE; ROUTES],
+            top: [NONE; ROUTES],
+            root: [NONE; GROUPS],
+            base: [NONE; GROUPS],
+            rank: [0; GROUPS],
+            half: [0; GROUPS],
+            ids: n,
+        },
+        line: Line {
+            label: [UNREACHED; ROUTES],
+            queue: [NONE; ROUTES],
+            tail: 0,
+        },
+        rings: Rings {
+            up: [NONE; GROUPS],
+            next: [NONE; GROUPS],
+            out: [NONE; GROUPS],
+            into: [NONE; GROUPS],
+        },
+        found: None,
+    };
+    inward(n, p, ROUTES as u32, &mut desk.trees.mate);
+    fill(&mut desk.trees.top, n);
+    fill(&mut desk.trees.root, n);
+    fill(&mut desk.trees.base, n);
+    seed(&desk.trees.mate, &mut desk.line, n);
+    run_queue(&mut desk, s);
+    if let Some(edge) = desk.found {
+        let mut m = [NONE; ROUTES];
+        augmented(&desk, edge, &mut m);
         outward(&m, n, p);
         return true;
     }
-    *label = labels;
+    *label = desk.line.label;
     false
 }

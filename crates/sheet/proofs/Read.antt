@@ -1,8 +1,8 @@
 -- What an accepted sheet is: a graph in which joined goes both ways, with no loop and no neighbour twice; how many entries and bytes it can have; and
 -- that half the entry total is the number of edges. Crates above cite these laws. Assumes nothing.
 use Prim.Native.Nat.{ℕ, zero, suc, ◌+◌, ◌*◌, ◌-◌, ◌/◌, ◌≤◌, ◌<◌}
-use mathlib.Core.Path.{◌≡◌, refl, sym, ap, ◌∙◌}
-use mathlib.Core.Bool.{Bool, true, false, ◌&&◌}
+use mathlib.Core.Path.{◌≡◌, refl, sym, ap}
+use mathlib.Core.Bool.{true, false}
 use mathlib.Core.List.{List, [], ◌∷◌}
 use native.Mathlib.Omega.{arith}
 use native.Mathlib.Nat.{mul-le-mul}
@@ -10,16 +10,16 @@ use native.Mathlib.Numerals.{add-one}
 use lib.ListN.{length, get_or, drop}
 use Rattle.limits.specs.Limits.{routes, none}
 use Rattle.graphs.specs.Count.{total}
-use Rattle.graphs.specs.Graph.{Graph, Simple, has, joined, distinct, edges, entries}
+use Rattle.graphs.specs.Graph.{Simple, has, joined, distinct, edges, entries}
 use Rattle.graphs.proofs.Count.{tests}
 use Rattle.graphs.proofs.Graph.{entries-edges, entries-le}
 use Rattle.rows.specs.Sheet.{Shaped, order, start, graph_of, named}
 use Rattle.rows.specs.Sheet as sheet
 use Rattle.sheet.specs.Reply.{reply_of}
-use Rattle.sheet.specs.Conditions.{Readable, Clear, AllClear, NoLoop}
-use Rattle.replies.specs.declared.Reply.TheVariants.{Accepted}
+use Rattle.sheet.specs.Conditions.{Readable, AllClear}
+use Rattle.limits.specs.Answer.{accepted}
 use Rattle.sheet.proofs.Given.{given}
-use Rattle.rows.proofs.Slots.{start-le, row-length}
+use Rattle.rows.proofs.Slots.{row-length}
 use Rattle.rows.proofs.Stretches.{has-place}
 
 -- a list in which no entry stands again later
@@ -28,15 +28,15 @@ unfolding distinct
 once-distinct [] h = refl
 once-distinct (w ∷ ws) h = simp tests (h 0 (omega arith), once-distinct ws (λ i l. h (suc i) (omega arith)))
 
-module _ (s : List ℕ) (ok : reply_of s ≡ Accepted) where
+module _ (s : List ℕ) (ok : reply_of s ≡ accepted) where
   pub readable : Readable s
-  readable = ((given s Accepted).0 ok).0
+  readable = ((given s accepted).0 ok).0
 
   pub shape : Shaped s
   shape = readable.shape
 
   clear : AllClear (graph_of s)
-  clear = ((given s Accepted).0 ok).1
+  clear = ((given s accepted).0 ok).1
 
   pub order-most : order s ≤ routes
   order-most = readable.few
@@ -46,7 +46,7 @@ module _ (s : List ℕ) (ok : reply_of s ≡ Accepted) where
   simple = record {
     below = λ v w l j. let p = at v w j in rw p.2 at (clear v p.0 l p.1).known;
     both_ways = λ v w l j. let p = at v w j in rw p.2 at (clear v p.0 l p.1).back;
-    no_loop = ((given s Accepted).0 ok).2;
+    no_loop = ((given s accepted).0 ok).2;
   }
     where
       at : (v w : ℕ) → joined (graph_of s) v w ≡ true → (i : ℕ) × (i < length ((graph_of s).row v)) × (named (graph_of s) v i ≡ w)

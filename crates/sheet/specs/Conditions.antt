@@ -1,10 +1,10 @@
 -- When each reply is given, in words: document 01's table. proofs/Given.antt shows that `reply_of` answers r exactly where `Because s r`.
-use Rattle.std.specs.Prelude.{ℕ, suc, ◌≤◌, ◌<◌, ◌≡◌, true, false, List, length, drop}
+use Rattle.std.specs.Prelude.{ℕ, suc, ◌≤◌, ◌<◌, ◌≡◌, true, false, List, length, drop, Ok, Err}
 use Rattle.limits.specs.Limits.{routes}
 use Rattle.graphs.specs.Graph.{Graph, has, joined}
 use Rattle.rows.specs.Sheet.{Shaped, order, graph_of, named}
-use Rattle.replies.specs.declared.Reply.{Reply}
-use Rattle.replies.specs.declared.Reply.TheVariants.{Accepted, Short, TooMany, Contents, UnknownId, DuplicateEdge, MissingEdge, Loop}
+use Rattle.replies.specs.Reply.{Reply}
+use Rattle.replies.specs.declared.Refusal.TheVariants.{Short, TooMany, Contents, UnknownId, DuplicateEdge, MissingEdge, Loop}
 
 -- refusals 1 to 3 are not given
 pub record Readable (s : List ℕ) : Type 0 where
@@ -35,17 +35,17 @@ NoLoop g = (v : ℕ) → v < g.order → joined g v v ≡ false
 
 -- why the bytes s are answered r: its condition holds, and that of no check before it
 abbrev pub Because : List ℕ → Reply → Type 0
-Because s Accepted = Readable s × AllClear (graph_of s) × NoLoop (graph_of s)
-Because s Short = length s < 8
-Because s (TooMany n) = (8 ≤ length s) × (routes < order s) × (n ≡ order s)
-Because s Contents = (8 ≤ length s) × (order s ≤ routes) × (Shaped s → ⊥)
-Because s (UnknownId w) = Readable s × (v : ℕ) × (i : ℕ) × Reached (graph_of s) v i × (named (graph_of s) v i ≡ w) × (order s ≤ w)
-Because s (DuplicateEdge v w) =
+Because s (Ok _) = Readable s × AllClear (graph_of s) × NoLoop (graph_of s)
+Because s (Err Short) = length s < 8
+Because s (Err (TooMany n)) = (8 ≤ length s) × (routes < order s) × (n ≡ order s)
+Because s (Err Contents) = (8 ≤ length s) × (order s ≤ routes) × (Shaped s → ⊥)
+Because s (Err (UnknownId w)) = Readable s × (v : ℕ) × (i : ℕ) × Reached (graph_of s) v i × (named (graph_of s) v i ≡ w) × (order s ≤ w)
+Because s (Err (DuplicateEdge v w)) =
     Readable s × (i : ℕ) × Reached (graph_of s) v i × (named (graph_of s) v i ≡ w) × (w < order s) × (has (drop (suc i) ((graph_of s).row v)) w ≡ true)
-Because s (MissingEdge w v) =
+Because s (Err (MissingEdge w v)) =
     Readable s × (i : ℕ) × Reached (graph_of s) v i × (named (graph_of s) v i ≡ w) × (w < order s)
     × (has (drop (suc i) ((graph_of s).row v)) w ≡ false)
     × (joined (graph_of s) w v ≡ false)
-Because s (Loop v) =
+Because s (Err (Loop v)) =
     Readable s × AllClear (graph_of s) × (v < order s) × (joined (graph_of s) v v ≡ true)
     × ((u : ℕ) → u < v → joined (graph_of s) u u ≡ false)

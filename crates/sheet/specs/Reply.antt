@@ -1,11 +1,11 @@
 -- The reply to a sheet: document 01's refusals 1 to 7, in the order in which they are tried; 4 to 7 are those of the crate entries.
-use Rattle.std.specs.Prelude.{ℕ, ◌+◌, ◌*◌, Bool, cond, ◌&&◌, List, length, eqb, ltb, leb}
+use Rattle.std.specs.Prelude.{ℕ, ◌+◌, ◌*◌, Bool, cond, ◌&&◌, List, length, eqb, ltb, leb, Err}
 use Rattle.limits.specs.Limits.{routes}
 use Rattle.graphs.specs.Count.{all}
 use Rattle.rows.specs.Sheet.{order, start, total, graph_of}
-use Rattle.replies.specs.Reply.{first}
-use Rattle.replies.specs.declared.Reply.{Reply}
-use Rattle.replies.specs.declared.Reply.TheVariants.{Short, TooMany, Contents}
+use Rattle.limits.specs.Answer.{first}
+use Rattle.replies.specs.Reply.{Reply}
+use Rattle.replies.specs.declared.Refusal.TheVariants.{Short, TooMany, Contents}
 use Rattle.entries.specs.Entries.{rows_reply, loop_reply}
 
 -- 3 is not given: the contents are not cut short, start 0 is 0, no start falls, and the length is 8 + 4n + 4E
@@ -19,6 +19,6 @@ shaped s =
 -- the reply to any bytes
 unfoldable pub reply_of : List ℕ → Reply
 reply_of s =
-    cond (ltb (length s) 8) Short
-    (cond (ltb routes (order s)) (TooMany (order s))
-    (cond (shaped s) (first (rows_reply (graph_of s)) (loop_reply (graph_of s))) Contents))
+    cond (ltb (length s) 8) (Err Short)
+    (cond (ltb routes (order s)) (Err (TooMany (order s)))
+    (cond (shaped s) (first (rows_reply (graph_of s)) (loop_reply (graph_of s))) (Err Contents)))

@@ -12,20 +12,18 @@ ghost use Rattle.graphs.specs.Count.{all};
 
 use entries::reply_to_rows;
 use limits::ROUTES;
-use replies::Reply;
+use replies::{Refusal, Reply};
 use words::word_at;
 
 // Whether no start is above the next one, n being the number of routes.
 fn starts_rise(s: &[u8], n: u32) -> bool
     ensures { result ≡ all n (λ k. leb (word s.now (k + 1)) (word s.now (k + 1 + 1))) }
 {
-    let mut k = 0;
-    while k < n {
+    for k in 0..n {
         let next = k as usize + 1;
         if word_at(s, next + 1) < word_at(s, next) {
             return false;
         }
-        k += 1;
     }
     true
 }
@@ -54,16 +52,16 @@ pub fn check(s: &[u8]) -> Reply
     ensures { result ≡ reply_of s.now }
 {
     if s.len() < 8 {
-        return Reply::Short;
+        return Err(Refusal::Short);
     }
     let n = word_at(s, 0);
     if ROUTES < n as usize {
-        return Reply::TooMany { n };
+        return Err(Refusal::TooMany { n });
     }
     if fits(s) {
         return reply_to_rows(s);
     }
-    Reply::Contents
+    Err(Refusal::Contents)
 }
 
 // The number of edges: half the entry total, since each edge is two entries.

@@ -1,39 +1,44 @@
--- The tables of the code, one list each, as the records that the definition of the search is about.
-use Rattle.std.specs.Prelude.{ℕ, Bool, false, List, []}
-use Rattle.theory.specs.Search.Tables.{Line, Rings, Tables}
-use Rattle.theory.specs.Search.Rings.{Way}
+-- Which tables of the definition of the search the code has: a `Desk` as its record, part by part.
+use Rattle.std.specs.Prelude.{ℕ, Option, Some, None, is_some}
+use Rattle.limits.specs.Limits.{none}
+use Rattle.theory.specs.Search.Tables as search
+use Rattle.tables.specs.declared.Line.{Line}
+use Rattle.tables.specs.declared.Rings.{Rings}
+use Rattle.tables.specs.declared.Edge.{Edge}
+use Rattle.tables.specs.declared.Desk.{Desk}
+
+-- the ends of an edge between two trees that is found; before, none
+abbrev pub one_of : Option Edge → ℕ
+one_of None = none
+one_of (Some e) = e.one
+
+abbrev pub two_of : Option Edge → ℕ
+two_of None = none
+two_of (Some e) = e.two
 
 -- labels, queue and its tail
-abbrev pub line : List ℕ → List ℕ → ℕ → Line
-line l q t = record { label = l; queue = q; tail = t }
+abbrev pub line_of : Line → search.Line
+line_of l = record { label = l.label; queue = l.queue; tail = l.tail }
 
 -- the rings: what a group has gone into, what is next to it there, and the edge to that
-abbrev pub rings : List ℕ → List ℕ → List ℕ → List ℕ → Rings
-rings u n x y = record { up = u; next = n; out = x; into = y }
-
--- the two walks of a ring
-abbrev pub way : ℕ → ℕ → ℕ → Rings → Way
-way x y k r = record { x = x; y = y; k = k; rings = r }
+abbrev pub rings_of : Rings → search.Rings
+rings_of r = record { up = r.up; next = r.next; out = r.out; into = r.into }
 
 -- all the tables
-abbrev pub tables : ℕ → List ℕ → List ℕ → List ℕ → List ℕ → List ℕ → List ℕ → List ℕ → Line → Rings → ℕ → Bool → ℕ → ℕ → Tables
-tables n mate parent top root base rank half l r ids hit one two = record {
-  order = n;
-  mate = mate;
-  parent = parent;
-  top = top;
-  root = root;
-  base = base;
-  rank = rank;
-  half = half;
-  line = l;
-  rings = r;
-  ids = ids;
-  hit = hit;
-  one = one;
-  two = two;
+abbrev pub tables_of : Desk → search.Tables
+tables_of d = record {
+  order = d.trees.order;
+  mate = d.trees.mate;
+  parent = d.trees.parent;
+  top = d.trees.top;
+  root = d.trees.root;
+  base = d.trees.base;
+  rank = d.trees.rank;
+  half = d.trees.half;
+  line = line_of d.line;
+  rings = rings_of d.rings;
+  ids = d.trees.ids;
+  hit = is_some d.found;
+  one = one_of d.found;
+  two = two_of d.found;
 }
-
--- the tables that the walks of a ring read, and nothing in the others
-abbrev pub tree : List ℕ → List ℕ → List ℕ → List ℕ → List ℕ → Rings → ℕ → Tables
-tree mate parent top base rank r ids = tables 0 mate parent top [] base rank [] (line [] [] 0) r ids false 0 0

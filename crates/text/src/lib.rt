@@ -1,36 +1,101 @@
-// Writing after what stands: each function puts bytes into `out` from place k on, and answers the place after them.
-// Where there is no room left nothing is put; `specs/Put.antt` says so, and a report always has room.
+// A text in a fixed room. What is put comes after what stands there; where no room is left nothing is put.
+// `specs/Put.antt` says so, and a report always has room.
 #![tactic(auto)]
 
 ghost use Rattle.std.specs.Prelude.{◌≡◌, [], ◌∷◌, ◌+◌, ◌<◌};
-ghost use Rattle.text.specs.Put.{Appends};
+ghost use Rattle.text.specs.Put.{followed_by};
 ghost use Rattle.text.specs.Digits.{digits_in, digits, spaced};
+
+use std::marker::Model;
 
 // The bytes that there is room for: the longest report is shorter.
 pub const ROOM: usize = 8192;
 
-// One byte.
-pub fn put(out: &mut [u8; ROOM], k: usize, b: u8) -> usize
-    ensures { Appends out.old k out.new result (b ∷ []) }
-{
-    if k < ROOM {
-        out[k] = b;
-        return k + 1;
-    }
-    ROOM
+// The bytes that were put so far, in their order.
+#[derive(Drop)]
+pub struct Text {
+    bytes: [u8; ROOM],
+    len: usize,
 }
 
-// A word.
-pub fn put_word(out: &mut [u8; ROOM], k: usize, word: &[u8]) -> usize
-    ensures { Appends out.old k out.new result word.now }
-{
-    let mut at = k;
-    let mut i = 0;
-    while i < word.len() {
-        at = put(out, at, word[i]);
-        i += 1;
+// A clause sees the list of the bytes that were put.
+impl Model for Text {
+    ghost use Rattle.std.specs.Prelude.{ℕ, List, ◌≡◌, ◌≤◌, length, take};
+    ghost use Rattle.text.specs.Put.{room};
+
+    ghost Value = { List ℕ };
+
+    ghost view = { λ t. take t.len t.bytes };
+
+    ghost invariant = { λ t. (length t.bytes ≡ room) × (t.len ≤ room) };
+}
+
+impl Text {
+    // A text with nothing in it.
+    pub fn new() -> Text
+        ensures { result ≡ [] }
+    {
+        Text {
+            bytes: [0; ROOM],
+            len: 0,
+        }
     }
-    at
+
+    // The bytes of the text.
+    pub fn as_slice(&self) -> &[u8]
+        ensures { result.now ≡ self.now }
+    {
+        &self.bytes[..self.len]
+    }
+
+    // One byte.
+    pub fn put(&mut self, b: u8)
+        ensures { self.new ≡ followed_by self.old (b ∷ []) }
+    {
+        if self.len < ROOM {
+            self.bytes[self.len] = b;
+            self.len += 1;
+        }
+    }
+
+    // A word.
+    pub fn put_word(&mut self, word: &[u8])
+        ensures { self.new ≡ followed_by self.old word.now }
+    {
+        for b in word {
+            self.put(*b);
+        }
+    }
+
+    // At most `most` digits of a number, the last ones.
+    fn put_digits(&mut self, most: u32, x: u64)
+        ensures { self.new ≡ followed_by self.old (digits_in most x) }
+    {
+        if most == 0 {
+            return;
+        }
+        if 10 <= x {
+            self.put_digits(most - 1, x / 10);
+        }
+        self.put(glyph(x % 10));
+    }
+
+    // A number in decimal.
+    #[tactic(auto, unfolding(crate::specs::Digits::digits))]
+    pub fn put_number(&mut self, x: u64)
+        ensures { self.new ≡ followed_by self.old (digits x) }
+    {
+        self.put_digits(20, x);
+    }
+
+    // A number with a space before it.
+    #[tactic(auto, using(crate::proofs::Putting::then), unfolding(crate::specs::Digits::spaced))]
+    pub fn put_spaced(&mut self, x: u64)
+        ensures { self.new ≡ followed_by self.old (spaced x) }
+    {
+        self.put(b' ');
+        self.put_number(x);
+    }
 }
 
 // A digit.
@@ -39,33 +104,4 @@ fn glyph(x: u64) -> u8
     ensures { result ≡ 48 + x }
 {
     48 + x as u8
-}
-
-// At most `most` digits of a number, the last ones.
-fn put_digits(most: u32, out: &mut [u8; ROOM], k: usize, x: u64) -> usize
-    ensures { Appends out.old k out.new result (digits_in most x) }
-{
-    if most == 0 {
-        return k;
-    }
-    if x < 10 {
-        return put(out, k, glyph(x));
-    }
-    let at = put_digits(most - 1, out, k, x / 10);
-    put(out, at, glyph(x % 10))
-}
-
-// A number in decimal.
-pub fn put_number(out: &mut [u8; ROOM], k: usize, x: u64) -> usize
-    ensures { Appends out.old k out.new result (digits x) }
-{
-    put_digits(20, out, k, x)
-}
-
-// A number with a space before it.
-pub fn put_spaced(out: &mut [u8; ROOM], k: usize, x: u64) -> usize
-    ensures { Appends out.old k out.new result (spaced x) }
-{
-    let at = put(out, k, b' ');
-    put_number(out, at, x)
 }

@@ -5,17 +5,18 @@ use mathlib.Core.Bool.{true, false}
 use mathlib.Core.List.{List}
 use native.Mathlib.Omega.{arith}
 use lib.ListN.{length, get_or}
+use Rattle.std.specs.Prelude.{is_err}
 use Rattle.limits.specs.Limits.{routes, none}
+use Rattle.limits.proofs.Replies.{not-refused}
 use Rattle.theory.specs.Search.Searched.{Outcome, found, stuck, searched_in, improved_in}
 use Rattle.graphs.proofs.Count.{cases}
 use Rattle.theory.proofs.Search.Improved.{improved-add, stuck-stays}
 use Rattle.words.specs.Words.{bytes_to}
 use Rattle.rows.specs.Sheet.{order, graph_of}
 use Rattle.sheet.proofs.Read.{order-most}
-use Rattle.verdicts.specs.Verdict.{refuses}
 use Rattle.witness.specs.Verdict.{improve_verdict}
 use Rattle.witness.specs.Promise.{PairingBytes, Begins}
-use Rattle.witness.proofs.Checker.{passed-improve, begins-accepted}
+use Rattle.witness.proofs.Checker.{begins, begins-accepted}
 use Rattle.buffers.specs.Held.{partners_of, size_of}
 use Rattle.improve.specs.Choice.{improved, last, finished_by, witness_by, pairing_after, witness_after, added_of, size_after, finished_of, sessions_after}
 use Rattle.improve.proofs.Meaning.{table-bytes, left-tidy, left-length, witness-length, means, grows}
@@ -33,14 +34,14 @@ module _ (s p w : List ℕ) (a b : ℕ) where
   w₁ = witness_after s p w a
 
   -- refused at first
-  module _ (h : refuses (improve_verdict s p w) ≡ true) where
+  module _ (h : is_err (improve_verdict s p w) ≡ true) where
     verdict-refused : improve_verdict s p₁ w₁ ≡ improve_verdict s p w
     verdict-refused = rw (pairing-kept s p w a h, witness-kept s p w a h) refl
 
   -- accepted at first
-  module _ (h : refuses (improve_verdict s p w) ≡ false) where
+  module _ (h : is_err (improve_verdict s p w) ≡ false) where
     abbrev B : Begins s p w
-    B = passed-improve s p w (improve_verdict s p w) (refuses (improve_verdict s p w)) refl refl h
+    B = begins s p w (not-refused _ h)
 
     first-left : p₁ ≡ left s p w a
     first-left = left_is s p w a h
@@ -87,28 +88,28 @@ module _ (s p w : List ℕ) (a b : ℕ) where
   -- ---- refused or not
 
   pub verdict-twice : improve_verdict s p₁ w₁ ≡ improve_verdict s p w
-  verdict-twice = cases (refuses (improve_verdict s p w)) verdict-refused verdict-again
+  verdict-twice = cases (is_err (improve_verdict s p w)) verdict-refused verdict-again
 
-  refused-twice : refuses (improve_verdict s p w) ≡ true → refuses (improve_verdict s p₁ w₁) ≡ true
-  refused-twice h = ap refuses verdict-twice ∙ h
+  refused-twice : is_err (improve_verdict s p w) ≡ true → is_err (improve_verdict s p₁ w₁) ≡ true
+  refused-twice h = ap is_err verdict-twice ∙ h
 
-  accepted-twice : refuses (improve_verdict s p w) ≡ false → refuses (improve_verdict s p₁ w₁) ≡ false
-  accepted-twice h = ap refuses verdict-twice ∙ h
+  accepted-twice : is_err (improve_verdict s p w) ≡ false → is_err (improve_verdict s p₁ w₁) ≡ false
+  accepted-twice h = ap is_err verdict-twice ∙ h
 
   pub pairing-twice : pairing_after s p₁ w₁ b ≡ pairing_after s p w (a + b)
-  pairing-twice = cases (refuses (improve_verdict s p w))
+  pairing-twice = cases (is_err (improve_verdict s p w))
       (λ h. pairing-kept s p₁ w₁ b (refused-twice h) ∙ pairing-kept s p w a h ∙ sym (pairing-kept s p w (a + b) h))
       (λ h. left_is s p₁ w₁ b (accepted-twice h) ∙ ap (λ (q : List ℕ). bytes_to (λ v. get_or q v none) (order s)) (improved-twice h) ∙ sym (left_is s p w (a + b) h))
 
   pub witness-twice : witness_after s p₁ w₁ b ≡ witness_after s p w (a + b)
-  witness-twice = cases (refuses (improve_verdict s p w))
+  witness-twice = cases (is_err (improve_verdict s p w))
       (λ h. witness-kept s p₁ w₁ b (refused-twice h) ∙ witness-kept s p w a h ∙ sym (witness-kept s p w (a + b) h))
       (λ h. witness-is s p₁ w₁ b (accepted-twice h) ∙ ap (witness_by (last s p₁ b)) (first-witness h) ∙ ap (λ (o : Outcome). witness_by o (witness_by (last s p a) w)) (last-twice h)
       ∙ witness-by h (last s p (a + b)) (last s p a) refl refl ∙ sym (witness-is s p w (a + b) h))
 
   pub finished-twice : finished_of s p₁ w₁ b ≡ finished_of s p w (a + b)
   unfolding finished_of
-  finished-twice = cases (refuses (improve_verdict s p w))
+  finished-twice = cases (is_err (improve_verdict s p w))
       (λ h. rw (verdict-twice, h) refl)
       (λ h. rw (verdict-twice, h) (ap finished_by (last-twice h)))
 
@@ -123,7 +124,7 @@ module _ (s p w : List ℕ) (a b : ℕ) where
   -- what the two have added is what the one adds
   pub added_twice : added_of s p w a + added_of s p₁ w₁ b ≡ added_of s p w (a + b)
   unfolding added_of
-  added_twice = cases (refuses (improve_verdict s p w))
+  added_twice = cases (is_err (improve_verdict s p w))
       (λ h. rw (verdict-twice, h) refl)
       (λ h. rw (verdict-twice, h, pairing-twice)
       (sums (size_of s p) (size_of s p₁) (size_of s (pairing_after s p w (a + b)))

@@ -1,2 +1,1 @@
--- Nothing for the crates above: Marks is for the proofs of this crate's functions alone.
-mod Marks
+-- Nothing for the crates above.

@@ -2,19 +2,23 @@
 // number; and the names of the parts, written out. Each by a table with a cell for each route.
 #![tactic(auto)]
 
-ghost use Rattle.std.specs.Prelude.{◌≡◌, ◌*◌, ◌<◌, ◌≤◌, length, get_or, cond};
+ghost use Rattle.std.specs.Prelude.{◌≡◌, ◌*◌, ◌≤◌, length, get_or, cond};
 ghost use Rattle.std.proofs.Math.IntN.{sub_ℕ};
 ghost use Rattle.limits.specs.Limits.{routes, none};
+ghost use Rattle.graphs.specs.Count.{count};
+ghost use Rattle.graphs.specs.Graph.{in_set};
+ghost use Rattle.graphs.specs.Parts.{parts};
+ghost use Rattle.graphs.specs.Surplus.{odd_root};
 ghost use Rattle.words.specs.Words.{bytes_to};
 ghost use Rattle.rows.specs.Sheet.{order, graph_of};
 ghost use Rattle.sheet.specs.Reply.{reply_of};
-ghost use Rattle.replies.specs.declared.Reply.TheVariants.{Accepted};
+ghost use Rattle.limits.specs.Answer.{accepted};
 ghost use Rattle.parts.specs.Parts.{Ready};
 ghost use Rattle.causes.specs.Given.{set_of};
 ghost use Rattle.weights.specs.Weight.{Weighs, part_name};
 
-use counts::{odd_parts, set_size};
-use limits::{NONE, ROUTES};
+use counts::{Cut, set_size};
+use limits::ROUTES;
 use parts::part_names;
 use rows::order;
 use words::put_word;
@@ -26,26 +30,37 @@ pub struct Weight {
     pub size: u32,
 }
 
-// The odd parts that are left without the set, and its size, by a table with a cell for each route.
-fn weight_in(s: &[u8], witness: &[u8], c: &mut [u32]) -> Weight
-    requires { Ready s.now witness.now c.old }
-    ensures { Weighs (graph_of s.now) (set_of witness.now) result.odd result.size }
+// The parts that are left of an accepted sheet without a set, in a table with a cell for each route.
+fn cut_of<'a>(s: &[u8], witness: &'a [u8], table: &'a mut [u32]) -> Cut<'a>
+    requires { Ready s.now witness.now table.old }
+    ensures { (result.set.now ≡ witness.now) × (result.names.now ≡ parts (graph_of s.now) (set_of witness.now)) }
 {
-    part_names(s, witness, c);
-    Weight {
-        odd: odd_parts(c, witness),
-        size: set_size(witness),
+    part_names(s, witness, table);
+    Cut {
+        names: table,
+        set: witness,
     }
 }
 
-// The same by a table of its own.
+// What is counted of a cut.
+fn weigh(cut: &Cut) -> Weight
+    ensures { (result.odd ≡ count (length cut.now.names.now) (odd_root (length cut.now.names.now) cut.now.names.now (in_set cut.now.set.now))) × (result.size ≡ count (length cut.now.set.now) (in_set cut.now.set.now)) }
+{
+    Weight {
+        odd: cut.odd_parts(),
+        size: set_size(cut.set),
+    }
+}
+
+// The odd parts that are left without the set, and its size.
 pub fn weight_of(s: &[u8], witness: &[u8]) -> Weight
-    requires { (reply_of s.now ≡ Accepted) × (length witness.now ≡ order s.now) }
+    requires { (reply_of s.now ≡ accepted) × (length witness.now ≡ order s.now) }
     ensures { Weighs (graph_of s.now) (set_of witness.now) result.odd result.size }
 {
     let n = order(s) as usize;
     let mut table = [0u32; ROUTES];
-    weight_in(s, witness, &mut table[..n])
+    let cut = cut_of(s, witness, &mut table[..n]);
+    weigh(&cut)
 }
 
 // Odd parts less the size of the set.
@@ -53,51 +68,27 @@ pub fn surplus_of(odd: u32, size: u32) -> i64
     requires { (odd ≤ routes) × (size ≤ routes) }
     ensures { result ≡ sub_ℕ odd size }
 {
-    (odd as i64) - (size as i64)
-}
-
-// The name of the part of v, or none where it is in the set.
-fn name_at(c: &[u32], witness: &[u8], v: usize) -> u32
-    requires { (v < length c.now) × (v < length witness.now) }
-    ensures { result ≡ cond (set_of witness.now v) none (get_or c.now v 0) }
-{
-    if witness[v] == 1 {
-        return NONE;
-    }
-    c[v]
+    i64::from(odd) - i64::from(size)
 }
 
 // The names of the parts written out, four bytes each.
-fn write_names(c: &[u32], witness: &[u8], buffer: &mut [u8])
-    requires { (length witness.now ≡ length c.now) × (length buffer.old ≡ 4 * length c.now) }
-    ensures { buffer.new ≡ bytes_to (λ v. cond (set_of witness.now v) none (get_or c.now v 0)) (length c.now) }
+fn write_names(cut: &Cut, buffer: &mut [u8])
+    requires { length buffer.old ≡ 4 * length cut.now.names.now }
+    ensures { buffer.new ≡ bytes_to (λ v. cond (set_of cut.now.set.now v) none (get_or cut.now.names.now v 0)) (length cut.now.names.now) }
 {
-    let mut v = 0;
-    while v < c.len() {
-        put_word(buffer, v, name_at(c, witness, v));
-        v += 1;
+    for v in 0..cut.names.len() {
+        put_word(buffer, v, cut.name_at(v));
     }
 }
 
-// The parts written out, and their weight, by a table with a cell for each route.
-fn divide_in(s: &[u8], witness: &[u8], c: &mut [u32], buffer: &mut [u8]) -> Weight
-    requires { Ready s.now witness.now c.old × (length buffer.old ≡ 4 * order s.now) }
-    ensures { Weighs (graph_of s.now) (set_of witness.now) result.odd result.size × (buffer.new ≡ bytes_to (part_name (graph_of s.now) (set_of witness.now)) (order s.now)) }
-{
-    part_names(s, witness, c);
-    write_names(c, witness, buffer);
-    Weight {
-        odd: odd_parts(c, witness),
-        size: set_size(witness),
-    }
-}
-
-// The same by a table of its own.
+// The same counts, and the names of the parts written out.
 pub fn divide_of(s: &[u8], witness: &[u8], buffer: &mut [u8]) -> Weight
-    requires { (reply_of s.now ≡ Accepted) × (length witness.now ≡ order s.now) × (length buffer.old ≡ 4 * order s.now) }
+    requires { (reply_of s.now ≡ accepted) × (length witness.now ≡ order s.now) × (length buffer.old ≡ 4 * order s.now) }
     ensures { Weighs (graph_of s.now) (set_of witness.now) result.odd result.size × (buffer.new ≡ bytes_to (part_name (graph_of s.now) (set_of witness.now)) (order s.now)) }
 {
     let n = order(s) as usize;
     let mut table = [0u32; ROUTES];
-    divide_in(s, witness, &mut table[..n], buffer)
+    let cut = cut_of(s, witness, &mut table[..n]);
+    write_names(&cut, buffer);
+    weigh(&cut)
 }

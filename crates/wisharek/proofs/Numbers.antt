@@ -3,8 +3,7 @@ use Prim.Native.Nat.{ℕ}
 use mathlib.Core.Path.{◌≡◌, ap, ◌∙◌}
 use mathlib.Core.List.{List}
 use lib.ListN.{length}
-use Rattle.verdicts.specs.Verdict.{told_of}
-use Rattle.verdicts.specs.declared.Verdict.{Verdict}
+use Rattle.verdicts.specs.Verdict.{Verdict, told_of}
 use Rattle.improve.specs.Choice.{finished_of}
 use Rattle.checking.specs.Calls.{CheckCall}
 use Rattle.improving.specs.ImproveCall.{ImproveCall}

@@ -2,7 +2,7 @@
 // same in words. Each call first tests the length of its answer buffer, then makes its checks in the order of their
 // numbers, and writes the answer's numbers, eight bytes each, refused or not; the crates `checking`, `measuring` and
 // `improving` have what is done, and here it has its name. Crates call these four functions from here; for Rust and C
-// the crate `wisharek_c` exports them.
+// the crate `wisharek_c` exports them. They are functions and no re-exports, so that here each name stands with its promise.
 #![tactic(auto)]
 
 ghost use Rattle.checking.specs.Calls.{CheckCall};

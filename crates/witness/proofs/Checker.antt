@@ -2,125 +2,114 @@
 use Prim.Native.Nat.{ℕ, ◌*◌, ◌≤◌, ◌<◌}
 use mathlib.Core.Path.{◌≡◌, refl, sym, ap, ◌∙◌}
 use mathlib.Core.Logic.{◌↔◌, ◌⊎◌, inl, inr, ⊎_elim}
-use mathlib.Core.Bool.{Bool, true, false, cond}
+use mathlib.Core.Bool.{Bool, true, false}
 use mathlib.Core.List.{List}
 use native.Mathlib.Omega.{arith}
 use lib.Dec.{eqb, ltb}
 use lib.IntN.{ℤ, pos, negsuc}
 use lib.ListN.{length, get_or}
 use borrow.Author.Tests.{eq-eqb, ne_eqb, eqb-true, lt-ltb, le-ltb, ltb-true, ltb-false}
+use Rattle.std.specs.Prelude.{Option, Some, None, Ok, Err, is_err}
+use Rattle.std.proofs.lemmas.Option.{none-some}
 use Rattle.limits.specs.Limits.{routes, none}
-use Rattle.graphs.specs.Count.{least}
+use Rattle.limits.specs.Answer.{accepted, first}
+use Rattle.limits.proofs.Replies.{first-accepted}
 use Rattle.graphs.specs.Graph.{Graph, joined}
 use Rattle.graphs.specs.Surplus.{surplus}
 use Rattle.graphs.specs.Pairing.{unpaired}
-use Rattle.graphs.proofs.Count.{cases, clash, least_first, least-passes}
+use Rattle.graphs.proofs.Count.{cases, clash}
 use Rattle.graphs.proofs.Bound.{no-more-pairs}
 use Rattle.graphs.proofs.Plan.{no-fewer-sessions}
 use Rattle.rows.specs.Sheet.{order, graph_of}
-use Rattle.replies.specs.Reply as replies
-use Rattle.sheet.specs.Reply as sheet
-use Rattle.replies.specs.declared.Reply.TheVariants as reply
-use Rattle.replies.proofs.Firsts.{not-refused}
+use Rattle.replies.specs.Reply.{Reply}
+use Rattle.sheet.specs.Reply.{reply_of}
 use Rattle.sheet.proofs.Read.{simple, order-most}
 use Rattle.causes.specs.Given.{mate_of, set_of}
 use Rattle.causes.specs.Cause.{cause_of, wrong, first_wrong}
-use Rattle.verdicts.specs.Verdict.{refuses, first, sheet_verdict, pairing_length, witness_length, partner_verdict, mark_verdict, parts_length}
+use Rattle.causes.proofs.Lowest.{lowest-none}
+use Rattle.verdicts.specs.Verdict.{Verdict, of_sheet, sheet_verdict, length_verdict, pairing_length, witness_length, parts_length, partner_refused, partner_verdict, mark_refused, first_above, mark_verdict}
+use Rattle.verdicts.specs.declared.Refusal.{Refusal}
+use Rattle.verdicts.specs.declared.Refusal.TheVariants.{PairingLength, WitnessLength, PartsLength}
 use Rattle.witness.specs.Verdict.{is_count, bound_verdict, improve_verdict, check_of, surplus_verdict, parts_verdict}
 use Rattle.witness.specs.Promise.{PairingBytes, Begins, Shown, Maximum, Checked}
-use Rattle.verdicts.specs.declared.Verdict.{Verdict}
-use Rattle.verdicts.specs.declared.Verdict.TheVariants.{Accepted, Sheet, PairingLength, WitnessLength, PartsLength, Partner, Mark, NotShown}
 
 -- ---- a check that accepts
 
-accepted-fine : (r : Verdict) → refuses r ≡ false → r ≡ Accepted
-accepted-fine Accepted h = refl
-accepted-fine (Sheet x) h = clash true refl h
-accepted-fine PairingLength h = clash true refl h
-accepted-fine WitnessLength h = clash true refl h
-accepted-fine PartsLength h = clash true refl h
-accepted-fine (Partner v x) h = clash true refl h
-accepted-fine (Mark i b) h = clash true refl h
-accepted-fine (NotShown u) h = clash true refl h
+-- a refusal is not acceptance
+refused : {C : Type 0} (e : Refusal) → Err e ≡ accepted → C
+refused e h = clash true refl (ap is_err h)
 
 -- two checks accept exactly where each does
-first-iff : (x y : Verdict) → (first x y ≡ Accepted) ↔ ((x ≡ Accepted) × (y ≡ Accepted))
-first-iff x y = (
-  λ h. cases (refuses x)
-      (λ t. let e : x ≡ Accepted = rw t at h in clash (refuses x) t (ap refuses e))
-      (λ t. (accepted-fine x t, rw t at h)),
-  λ h. rw h.0 h.1,
-)
+first-iff : (x y : Verdict) → (first x y ≡ accepted) ↔ ((x ≡ accepted) × (y ≡ accepted))
+first-iff x y = (λ h. first-accepted x y (ap is_err h), λ h. rw h.0 h.1)
 
-sheet-iff : (s : List ℕ) → (sheet_verdict s ≡ Accepted) ↔ (sheet.reply_of s ≡ reply.Accepted)
+of_sheet-iff : (r : Reply) → (of_sheet r ≡ accepted) ↔ (r ≡ accepted)
+of_sheet-iff (Ok tt) = (λ h. refl, λ h. refl)
+of_sheet-iff (Err e) = (λ h. clash true refl (ap is_err h), λ h. clash true refl (ap is_err h))
+
+sheet-iff : (s : List ℕ) → (sheet_verdict s ≡ accepted) ↔ (reply_of s ≡ accepted)
 unfolding sheet_verdict
-sheet-iff s = (
-  λ h. cases (replies.refuses (sheet.reply_of s))
-      (λ t. let e : Sheet (sheet.reply_of s) ≡ Accepted = rw t at h in let z : ◌≡◌ {A = ℕ} 0 1 = cc in absurd (omega arith))
-      (λ t. not-refused (sheet.reply_of s) t),
-  λ h. rw h,
-)
+sheet-iff s = of_sheet-iff (reply_of s)
 
-length-iff : (a b : ℕ) (r : Verdict) → refuses r ≡ true → (cond (eqb a b) Accepted r ≡ Accepted) ↔ (a ≡ b)
-length-iff a b r h = (
-  λ e. cases (eqb a b) (λ t. eqb-true a b t) (λ t. let k : r ≡ Accepted = rw t at e in clash (refuses r) h (ap refuses k)),
+length-iff : (a b : ℕ) (r : Refusal) → (length_verdict a b r ≡ accepted) ↔ (a ≡ b)
+length-iff a b r = (
+  λ e. cases (eqb a b) (λ t. eqb-true a b t) (λ t. refused r (rw t at e)),
   λ e. rw (eq-eqb a b e),
 )
 
--- what a check that did not refuse has shown
-pub passed-sheet : (s : List ℕ) (r : Verdict) (b : Bool) → r ≡ sheet_verdict s → b ≡ refuses r → b ≡ false → sheet.reply_of s ≡ reply.Accepted
-passed-sheet s r b e f t = (sheet-iff s).0 (sym e ∙ accepted-fine r (sym f ∙ t))
-
--- the least below n that passes is n exactly where none passes
-least_iff : (n : ℕ) (P : ℕ → Bool) (r : Verdict) → refuses r ≡ true → (cond (ltb (least n P) n) r Accepted ≡ Accepted) ↔ ((v : ℕ) → v < n → P v ≡ false)
-least_iff n P r h = (
-  λ e v l. cases (ltb (least n P) n)
-      (λ t. let k : r ≡ Accepted = rw t at e in clash (refuses r) h (ap refuses k))
-      (λ t. least_first n P v (omega (arith, ltb-false (least n P) n t))),
-  λ f. cases (ltb (least n P) n)
-      (λ t. clash (P (least n P)) (least-passes n P (ltb-true (least n P) n t)) (f (least n P) (ltb-true (least n P) n t)))
-      (λ t. rw t),
-)
-
-partner-iff : (g : Graph) (mate : ℕ → ℕ) → (partner_verdict g mate ≡ Accepted) ↔ ((v : ℕ) → v < g.order → wrong (cause_of g mate v) ≡ false)
-unfolding partner_verdict first_wrong
-partner-iff g mate = least_iff g.order (λ v. wrong (cause_of g mate v)) (Partner (first_wrong g mate) (mate (first_wrong g mate))) refl
-
-mark-iff : (n : ℕ) (witness : List ℕ) → (mark_verdict n witness ≡ Accepted) ↔ ((v : ℕ) → v < n → ltb 1 (get_or witness v 0) ≡ false)
-unfolding mark_verdict
-mark-iff n witness =
-    let i : ℕ = least n (λ k. ltb 1 (get_or witness k 0)) in
-    least_iff n (λ k. ltb 1 (get_or witness k 0)) (Mark i (get_or witness i 0)) refl
-
-pairing-iff : (n : ℕ) (pairing : List ℕ) → (pairing_length n pairing ≡ Accepted) ↔ (length pairing ≡ 4 * n)
+pairing-iff : (n : ℕ) (pairing : List ℕ) → (pairing_length n pairing ≡ accepted) ↔ (length pairing ≡ 4 * n)
 unfolding pairing_length
-pairing-iff n pairing = length-iff (length pairing) (4 * n) PairingLength refl
+pairing-iff n pairing = length-iff (length pairing) (4 * n) PairingLength
 
-witness-iff : (n : ℕ) (witness : List ℕ) → (witness_length n witness ≡ Accepted) ↔ (length witness ≡ n)
+witness-iff : (n : ℕ) (witness : List ℕ) → (witness_length n witness ≡ accepted) ↔ (length witness ≡ n)
 unfolding witness_length
-witness-iff n witness = length-iff (length witness) n WitnessLength refl
+witness-iff n witness = length-iff (length witness) n WitnessLength
+
+parts-iff : (n : ℕ) (buffer : List ℕ) → (parts_length n buffer ≡ accepted) ↔ (length buffer ≡ 4 * n)
+unfolding parts_length
+parts-iff n buffer = length-iff (length buffer) (4 * n) PartsLength
+
+partner-none : (g : Graph) (mate : ℕ → ℕ) (o : Option ℕ) → (partner_refused g mate o ≡ accepted) ↔ (o ≡ None)
+partner-none g mate None = (λ h. refl, λ h. refl)
+partner-none g mate (Some v) = (λ h. refused _ h, λ h. absurd (none-some v (sym h)))
+
+partner-iff : (g : Graph) (mate : ℕ → ℕ) → (partner_verdict g mate ≡ accepted) ↔ ((v : ℕ) → v < g.order → wrong (cause_of g mate v) ≡ false)
+unfolding partner_verdict first_wrong
+partner-iff g mate =
+    let l = lowest-none g.order (λ v. wrong (cause_of g mate v)) in
+    let p = partner-none g mate (first_wrong g mate) in
+    (λ h. l.0 (p.0 h), λ h. p.1 (l.1 h))
+
+mark-none : (witness : List ℕ) (o : Option ℕ) → (mark_refused witness o ≡ accepted) ↔ (o ≡ None)
+mark-none witness None = (λ h. refl, λ h. refl)
+mark-none witness (Some i) = (λ h. refused _ h, λ h. absurd (none-some i (sym h)))
+
+mark-iff : (n : ℕ) (witness : List ℕ) → (mark_verdict n witness ≡ accepted) ↔ ((v : ℕ) → v < n → ltb 1 (get_or witness v 0) ≡ false)
+unfolding mark_verdict first_above
+mark-iff n witness =
+    let l = lowest-none n (λ k. ltb 1 (get_or witness k 0)) in
+    let p = mark-none witness (first_above n witness) in
+    (λ h. l.0 (p.0 h), λ h. p.1 (l.1 h))
 
 -- what checks that did not refuse have shown
-pub passed-surplus : (s witness : List ℕ) (r : Verdict) (b : Bool) → r ≡ surplus_verdict s witness → b ≡ refuses r → b ≡ false
-    → (sheet.reply_of s ≡ reply.Accepted) × (length witness ≡ order s)
+pub passed-sheet : (s : List ℕ) → sheet_verdict s ≡ accepted → reply_of s ≡ accepted
+passed-sheet s = (sheet-iff s).0
+
+pub passed-surplus : (s witness : List ℕ) → surplus_verdict s witness ≡ accepted → (reply_of s ≡ accepted) × (length witness ≡ order s)
 unfolding surplus_verdict
-passed-surplus s witness r b e f t =
-    let h = (first-iff (sheet_verdict s) (first (witness_length (order s) witness) (mark_verdict (order s) witness))).0 (sym e ∙ accepted-fine r (sym f ∙ t)) in
+passed-surplus s witness e =
+    let h = (first-iff (sheet_verdict s) (first (witness_length (order s) witness) (mark_verdict (order s) witness))).0 e in
     let k = (first-iff (witness_length (order s) witness) (mark_verdict (order s) witness)).0 h.1 in
     ((sheet-iff s).0 h.0, (witness-iff (order s) witness).0 k.0)
 
-parts-iff : (n : ℕ) (buffer : List ℕ) → (parts_length n buffer ≡ Accepted) ↔ (length buffer ≡ 4 * n)
-unfolding parts_length
-parts-iff n buffer = length-iff (length buffer) (4 * n) PartsLength refl
-
-pub passed-parts : (s witness buffer : List ℕ) (r : Verdict) (b : Bool) → r ≡ parts_verdict s witness buffer → b ≡ refuses r → b ≡ false
-    → (sheet.reply_of s ≡ reply.Accepted) × (length witness ≡ order s) × (length buffer ≡ 4 * order s)
+pub passed-parts : (s witness buffer : List ℕ) → parts_verdict s witness buffer ≡ accepted
+    → (reply_of s ≡ accepted) × (length witness ≡ order s) × (length buffer ≡ 4 * order s)
 unfolding parts_verdict
-passed-parts s witness buffer r b e f t =
+passed-parts s witness buffer e =
     let last : Verdict = mark_verdict (order s) witness in
     let third : Verdict = parts_length (order s) buffer in
     let second : Verdict = witness_length (order s) witness in
-    let h = (first-iff (sheet_verdict s) (first second (first third last))).0 (sym e ∙ accepted-fine r (sym f ∙ t)) in
+    let h = (first-iff (sheet_verdict s) (first second (first third last))).0 e in
     let k = (first-iff second (first third last)).0 h.1 in
     let l = (first-iff third last).0 k.1 in
     ((sheet-iff s).0 h.0, (witness-iff (order s) witness).0 k.0, (parts-iff (order s) buffer).0 l.0)
@@ -152,7 +141,7 @@ module _ (g : Graph) (mate : ℕ → ℕ) (v : ℕ) (few : g.order ≤ routes) w
       let far : mate v ≡ none → ⊥ = λ e. omega arith in
       rw (ne_eqb _ _ far, lt-ltb _ _ l, ne_eqb _ _ ne, j, eq-eqb _ _ b)
 
-module _ (s pairing : List ℕ) (ok : sheet.reply_of s ≡ reply.Accepted) where
+module _ (s pairing : List ℕ) (ok : reply_of s ≡ accepted) where
   abbrev g : Graph
   g = graph_of s
 
@@ -186,12 +175,12 @@ count-iff : (z : ℤ) (u : ℕ) → (is_count z u ≡ true) ↔ (z ≡ pos u)
 count-iff (pos k) u = (λ h. ap pos (eqb-true k u h), λ h. eq-eqb k u (cc))
 count-iff (negsuc k) u = (λ h. clash false h refl, λ h. let z : ◌≡◌ {A = ℕ} 0 1 = cc in absurd (omega arith))
 
-bound-iff : (g : Graph) (mate : ℕ → ℕ) (A : ℕ → Bool) → (bound_verdict g mate A ≡ Accepted) ↔ (surplus g A ≡ pos (unpaired g mate))
+bound-iff : (g : Graph) (mate : ℕ → ℕ) (A : ℕ → Bool) → (bound_verdict g mate A ≡ accepted) ↔ (surplus g A ≡ pos (unpaired g mate))
 unfolding bound_verdict
 bound-iff g mate A = (
   λ h. cases (is_count (surplus g A) (unpaired g mate))
       (λ t. (count-iff (surplus g A) (unpaired g mate)).0 t)
-      (λ t. let e : NotShown (unpaired g mate) ≡ Accepted = rw t at h in let z : ◌≡◌ {A = ℕ} 0 1 = cc in absurd (omega arith)),
+      (λ t. refused _ (rw t at h)),
   λ h. rw ((count-iff (surplus g A) (unpaired g mate)).1 h),
 )
 
@@ -208,7 +197,8 @@ module _ (s pairing witness : List ℕ) where
   abbrev from-mark : Verdict
   from-mark = first (mark_verdict (order s) witness) (bound_verdict (graph_of s) (mate_of pairing) (set_of witness))
 
-  pub begins : improve_verdict s pairing witness ≡ Accepted → Begins s pairing witness
+  -- what the checks of improve have shown, where none has refused
+  pub begins : improve_verdict s pairing witness ≡ accepted → Begins s pairing witness
   unfolding improve_verdict
   begins h =
       let a = (first-iff (sheet_verdict s) from-pairing).0 h in
@@ -221,7 +211,7 @@ module _ (s pairing witness : List ℕ) where
         long = (witness-iff (order s) witness).0 c.0;
       }
 
-  pub begins-accepted : Begins s pairing witness → improve_verdict s pairing witness ≡ Accepted
+  pub begins-accepted : Begins s pairing witness → improve_verdict s pairing witness ≡ accepted
   unfolding improve_verdict
   begins-accepted h =
       let ok = h.accepted in
@@ -230,11 +220,7 @@ module _ (s pairing witness : List ℕ) where
       let b = (first-iff (pairing_length (order s) pairing) from-witness).1 ((pairing-iff (order s) pairing).1 h.partners.long, c) in
       (first-iff (sheet_verdict s) from-pairing).1 ((sheet-iff s).1 ok, b)
 
-  -- what the checks of improve have shown, where none has refused
-  pub passed-improve : (r : Verdict) (b : Bool) → r ≡ improve_verdict s pairing witness → b ≡ refuses r → b ≡ false → Begins s pairing witness
-  passed-improve r b e f t = begins (sym e ∙ accepted-fine r (sym f ∙ t))
-
-  pub accepts : check_of s pairing witness ≡ Accepted → Shown s pairing witness
+  pub accepts : check_of s pairing witness ≡ accepted → Shown s pairing witness
   unfolding check_of
   accepts h =
       let a = (first-iff (improve_verdict s pairing witness) from-mark).0 h in
@@ -247,7 +233,7 @@ module _ (s pairing witness : List ℕ) where
         tight = (bound-iff (graph_of s) (mate_of pairing) (set_of witness)).0 b.1;
       }
 
-  pub shown-accepted : Shown s pairing witness → check_of s pairing witness ≡ Accepted
+  pub shown-accepted : Shown s pairing witness → check_of s pairing witness ≡ accepted
   unfolding check_of
   shown-accepted h =
       let b = (first-iff (mark_verdict (order s) witness) (bound_verdict (graph_of s) (mate_of pairing) (set_of witness))).1

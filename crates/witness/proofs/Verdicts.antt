@@ -1,7 +1,7 @@
--- The checks in turn, and the bound by counts. Assumes nothing.
+-- The bound by counts. Assumes nothing.
 use Prim.Native.Nat.{ℕ, ◌+◌, ◌-◌}
-use mathlib.Core.Path.{◌≡◌, sym, ap, ◌∙◌}
-use mathlib.Core.Bool.{Bool, true, false}
+use mathlib.Core.Path.{◌≡◌}
+use mathlib.Core.Bool.{Bool}
 use native.Mathlib.Omega.{arith}
 use lib.Dec.{eqb, ltb}
 use lib.IntN.{sub_ℕ}
@@ -11,17 +11,10 @@ use Rattle.graphs.specs.Graph.{Graph}
 use Rattle.graphs.specs.Surplus.{odd_parts, surplus}
 use Rattle.graphs.specs.Pairing.{unpaired}
 use Rattle.graphs.proofs.Count.{cases}
-use Rattle.verdicts.specs.Verdict.{refuses, first}
+use Rattle.std.specs.Prelude.{Err}
+use Rattle.limits.specs.Answer.{accepted}
 use Rattle.witness.specs.Verdict.{is_count, bound_verdict}
-use Rattle.verdicts.specs.declared.Verdict.{Verdict}
-use Rattle.verdicts.specs.declared.Verdict.TheVariants.{Accepted, NotShown}
-
--- a check that refuses is the answer, and one that does not hands on
-pub stops : (x y r : Verdict) (b : Bool) → r ≡ x → b ≡ refuses r → b ≡ true → r ≡ first x y
-stops x y r b e f t = e ∙ rw (sym (ap refuses e) ∙ sym f ∙ t)
-
-pub goes_on : (x y z r : Verdict) (b : Bool) → r ≡ x → b ≡ refuses r → b ≡ false → z ≡ y → z ≡ first x y
-goes_on x y z r b e f t h = h ∙ rw (sym (ap refuses e) ∙ sym f ∙ t)
+use Rattle.verdicts.specs.declared.Refusal.TheVariants.{NotShown}
 
 -- 12: the bound by counts alone
 pub count-sub : (a b u : ℕ) → is_count (sub_ℕ a b) u ≡ eqb a (u + b)
@@ -37,10 +30,10 @@ module _ (g : Graph) (mate : ℕ → ℕ) (A : ℕ → Bool) (odd size free : �
   unfolding surplus
   test = rw (← eo, ← es, ← ef) (count-sub odd size free)
 
-  pub bound-met : odd ≡ free + size → Accepted ≡ bound_verdict g mate A
+  pub bound-met : odd ≡ free + size → accepted ≡ bound_verdict g mate A
   unfolding bound_verdict
   bound-met h = rw (test, eq-eqb _ _ h)
 
-  pub bound-unmet : (odd ≡ free + size → ⊥) → NotShown free ≡ bound_verdict g mate A
+  pub bound-unmet : (odd ≡ free + size → ⊥) → Err (NotShown free) ≡ bound_verdict g mate A
   unfolding bound_verdict
   bound-unmet h = rw (test, ne_eqb _ _ h, ← ef)

@@ -1,5 +1,5 @@
 -- What the checker's answer means.
-use Rattle.std.specs.Prelude.{ℕ, ◌*◌, ◌≤◌, ◌<◌, ◌≡◌, ◌↔◌, ◌⊎◌, true, false, List, ℤ, pos, length, get_or}
+use Rattle.std.specs.Prelude.{ℕ, ◌*◌, ◌≤◌, ◌<◌, ◌≡◌, ◌↔◌, ◌⊎◌, true, false, List, ℤ, pos, length, get_or, is_err}
 use Rattle.std.proofs.Math.IntN.{sub_ℕ}
 use Rattle.limits.specs.Limits.{routes, none}
 use Rattle.graphs.specs.Graph.{Graph}
@@ -8,13 +8,11 @@ use Rattle.graphs.specs.Pairing.{Pairing, pairs, unpaired, sessions}
 use Rattle.graphs.specs.Plan.{Session, Plan}
 use Rattle.rows.specs.Sheet.{order, graph_of}
 use Rattle.sheet.specs.Reply.{reply_of}
-use Rattle.replies.specs.declared.Reply.TheVariants as sheet
+use Rattle.limits.specs.Answer as answer
 use Rattle.causes.specs.Given.{mate_of, set_of}
 use Rattle.weights.specs.Weight.{Weighs}
-use Rattle.verdicts.specs.Verdict.{refuses}
+use Rattle.verdicts.specs.Verdict.{Verdict}
 use Rattle.witness.specs.Verdict.{check_of, surplus_verdict, surplus_of, parts_verdict, odd_of, members_of, parts_bytes}
-use Rattle.verdicts.specs.declared.Verdict.{Verdict}
-use Rattle.verdicts.specs.declared.Verdict.TheVariants as verdict
 
 -- the bytes are a pairing of the graph: four for each route, each partner none or a neighbour that names the route back
 pub record PairingBytes (s pairing : List ℕ) : Type 0 where
@@ -29,13 +27,13 @@ pub record SetBytes (s witness : List ℕ) : Type 0 where
 
 -- what improve may begin from: the sheet is accepted, the bytes are a pairing of it, and the witness has a byte for each route
 pub record Begins (s pairing witness : List ℕ) : Type 0 where
-  pub accepted : reply_of s ≡ sheet.Accepted
+  pub accepted : reply_of s ≡ answer.accepted
   pub partners : PairingBytes s pairing
   pub long : length witness ≡ order s
 
 -- the set meets the bound: the unpaired routes are as many as its surplus
 pub record Shown (s pairing witness : List ℕ) : Type 0 where
-  pub accepted : reply_of s ≡ sheet.Accepted
+  pub accepted : reply_of s ≡ answer.accepted
   pub partners : PairingBytes s pairing
   pub marks : SetBytes s witness
   pub tight : surplus (graph_of s) (set_of witness) ≡ pos (unpaired (graph_of s) (mate_of pairing))
@@ -48,16 +46,16 @@ pub record Maximum (g : Graph) (mate : ℕ → ℕ) : Type 0 where
 -- the checker's answer: which it is, exactly when it accepts, and what is accepted
 pub record Checked (s pairing witness : List ℕ) (r : Verdict) : Type 0 where
   pub is : r ≡ check_of s pairing witness
-  pub exactly : (r ≡ verdict.Accepted) ↔ Shown s pairing witness
-  pub maximum : r ≡ verdict.Accepted → Maximum (graph_of s) (mate_of pairing)
+  pub exactly : (r ≡ answer.accepted) ↔ Shown s pairing witness
+  pub maximum : r ≡ answer.accepted → Maximum (graph_of s) (mate_of pairing)
 
 -- the answer of the surplus: the verdict, and the surplus as a signed number and as the difference of two small counts, which are odd parts and members
 pub record Surplus (s witness : List ℕ) (r : Verdict) (odd size : ℕ) (z : ℤ) : Type 0 where
   pub is : r ≡ surplus_verdict s witness
   pub surplus : z ≡ surplus_of s witness
   pub counts : sub_ℕ odd size ≡ surplus_of s witness
-  pub weighed : refuses r ≡ false → Weighs (graph_of s) (set_of witness) odd size
-  pub unweighed : refuses r ≡ true → (odd ≡ 0) × (size ≡ 0)
+  pub weighed : is_err r ≡ false → Weighs (graph_of s) (set_of witness) odd size
+  pub unweighed : is_err r ≡ true → (odd ≡ 0) × (size ≡ 0)
   pub odd-small : odd ≤ routes
   pub size_small : size ≤ routes
 

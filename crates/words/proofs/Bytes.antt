@@ -9,8 +9,11 @@ use native.Mathlib.Numerals.{add-one}
 use lib.Dec.{ltb}
 use lib.ListN.{length, get_or, set, take, drop, length-append, length-map, length-set, length-take, length-drop, drop_of_length-le, get_or-map, get_or-eq_default}
 use native.Mathlib.Decide.{ℕ_discrete}
-use lib.Seq.{take_all, take-suc, set_at, sets, sets-eq, take-append_seam, drop-append-add, drop-drop, drop-cons, get_or-set_same, get_or-set_other}
+use lib.Seq.{get_or-take, get_or-drop, take_all, take-suc, set_at, sets, sets-eq, take-append_seam, drop-append-add, drop-drop, drop-cons, get_or-set_same, get_or-set_other}
+use borrow.Rule.Slice.PartMut.{put_mid}
 use borrow.Author.Tests.{lt-ltb, le-ltb, ltb-true, ltb-false}
+use Rattle.std.specs.Int.{from_le_bytes, to_le_bytes, w32}
+use Rattle.std.proofs.lemmas.List.{ext_get_or}
 use Rattle.limits.specs.Limits.{none}
 use Rattle.graphs.specs.Parts.{run}
 use Rattle.graphs.proofs.Count.{cases}
@@ -55,6 +58,43 @@ numbers-drop s i h =
 pub numbers-end : (s : List ℕ) (i : ℕ) → length s / 4 ≤ i → drop i (numbers s) ≡ []
 numbers-end s i h = drop_of_length-le (numbers s) {i = i} (omega (arith, numbers-length s))
 
+-- past the first four bytes stand the numbers from the second on
+word-drop : (s : List ℕ) (i : ℕ) → 4 ≤ length s → word (drop 4 s) i ≡ word s (suc i)
+word-drop s i h =
+    let d : length (drop 4 s) + 4 ≡ length s = omega (arith, length-drop 4 s) in
+    cases (ltb i (length (drop 4 s) / 4))
+    (λ t. let l : i < length (drop 4 s) / 4 = ltb-true _ _ t in
+    word-there (drop 4 s) i l ∙ four-drop (4 * i) ∙ ap (four s) (omega arith) ∙ sym (word-there s (suc i) (omega arith)))
+    (λ t. let l : length (drop 4 s) / 4 ≤ i = ltb-false _ _ t in word-past (drop 4 s) i l ∙ sym (word-past s (suc i) (omega arith)))
+  where
+    four-drop : (j : ℕ) → four (drop 4 s) j ≡ four s (4 + j)
+    four-drop j =
+        let a : 4 + (j + 1) ≡ 4 + j + 1 = omega arith in
+        let b : 4 + (j + 2) ≡ 4 + j + 2 = omega arith in
+        let c : 4 + (j + 3) ≡ 4 + j + 3 = omega arith in
+        rw (get_or-drop 4 s j 0, get_or-drop 4 s (j + 1) 0, get_or-drop 4 s (j + 2) 0, get_or-drop 4 s (j + 3) 0, a, b, c)
+
+-- so the numbers are the first, and those of the other bytes
+pub numbers-next : (s bytes rest : List ℕ) (x : ℕ) → 4 ≤ length s → bytes ≡ take 4 s → rest ≡ drop 4 s → x ≡ from_le_bytes w32 bytes
+    → numbers s ≡ x ∷ numbers rest
+numbers-next s bytes rest x h eb er ex =
+    rw er (ext_get_or none (numbers s) (x ∷ numbers (drop 4 s))
+    (omega (arith, numbers-length s, numbers-length (drop 4 s), length-drop 4 s))
+    at)
+  where
+    first : x ≡ word s 0
+    first =
+        let e : x ≡ four s 0 = ex ∙ rw (eb, get_or-take 4 s 0 0 (omega arith), get_or-take 4 s 1 0 (omega arith), get_or-take 4 s 2 0 (omega arith), get_or-take 4 s 3 0 (omega arith)) (omega arith) in
+        e ∙ sym (word-there s 0 (omega arith))
+
+    at : (i : ℕ) → i < length (numbers s) → get_or (numbers s) i none ≡ get_or (x ∷ numbers (drop 4 s)) i none
+    at zero l = numbers-at s 0 ∙ sym first
+    at (suc i) l = numbers-at s (suc i) ∙ sym (word-drop s i h) ∙ sym (numbers-at (drop 4 s) i)
+
+pub numbers-few : (s : List ℕ) → length s < 4 → numbers s ≡ []
+unfolding numbers run
+numbers-few s h = let e : length s / 4 ≡ 0 = omega arith in rw e
+
 -- ---- a loop along the numbers: the invariant is that what is left to do leads to b
 
 module _ {A : Type 0} (f : ℕ → ℕ → A → A) (s : List ℕ) (b : A) where
@@ -68,6 +108,32 @@ module _ {A : Type 0} (f : ℕ → ℕ → A → A) (s : List ℕ) (b : A) where
   pub over-end : (a : A) (i : ℕ) → length s / 4 ≤ i → over f a i (drop i (numbers s)) ≡ b → a ≡ b
   unfolding over
   over-end a i h p = rw (numbers-end s i h) at p
+
+-- the same where the numbers are taken one after the other
+module _ {A : Type 0} (f : ℕ → ℕ → A → A) (b : A) where
+  pub over-next : (a a' : A) (k k' w : ℕ) (left rest : List ℕ) → left ≡ w ∷ rest → k' ≡ k + 1 → over f a k left ≡ b → a' ≡ f k w a → over f a' k' rest ≡ b
+  unfolding over
+  over-next a a' k k' w left rest e ek p q = rw (q, ek, add-one k) (rw e at p)
+
+  pub over-none : (a : A) (k : ℕ) (left : List ℕ) → left ≡ [] → over f a k left ≡ b → a ≡ b
+  unfolding over
+  over-none a k left e p = rw e at p
+
+-- and what the one taken is, where the others are what is left of the row
+pub taken : (row left rest : List ℕ) (k i w : ℕ) → left ≡ drop k (numbers row) → i ≡ k → left ≡ w ∷ rest
+    → (i < length row / 4) × (w ≡ word row i) × (rest ≡ drop (i + 1) (numbers row))
+taken row left rest k i w e ei h =
+    let d : drop i (numbers row) ≡ w ∷ rest = rw ei (sym e ∙ h) in
+    cases (ltb i (length row / 4))
+    (λ t. let l : i < length row / 4 = ltb-true _ _ t in
+    let m : word row i ∷ drop (i + 1) (numbers row) ≡ w ∷ rest = sym (numbers-drop row i l) ∙ d in
+    (l, cc, cc))
+    (λ t. let m : [] ≡ w ∷ rest = sym (numbers-end row i (ltb-false _ _ t)) ∙ d in cc)
+
+pub all-taken : (row left : List ℕ) (k : ℕ) → left ≡ drop k (numbers row) → left ≡ [] → length row / 4 ≤ k
+all-taken row left k e h = cases (ltb k (length row / 4))
+    (λ t. let m : word row k ∷ drop (k + 1) (numbers row) ≡ [] = sym (numbers-drop row k (ltb-true _ _ t)) ∙ sym e ∙ h in cc)
+    (λ t. ltb-false _ _ t)
 
 -- ---- a number that is put is read there, and every other byte is as it was
 
@@ -153,15 +219,34 @@ pub sets-after : (p q bs : List ℕ) (n : ℕ) → length p ≡ n → length bs 
 sets-after p q bs n e h =
     rw (← e, sets-eq bs (p ++ q) (length p) (omega (arith, length-append p q)), take-append_seam p q, drop-append-add p q (length bs), append_assoc p bs (drop (length bs) q))
 
--- after the numbers that were put, the next
-pub put_next : (p q : List ℕ) (k x : ℕ) → length p ≡ 4 * k → 4 ≤ length q → put_word (p ++ q) k x ≡ (p ++ bytes4 x) ++ drop 4 q
+-- and bytes copied over a stretch of s are such stores
+pub copied : (s bs : List ℕ) (i n : ℕ) → i + n ≤ length s → length bs ≡ n → put_mid i n s bs ≡ sets s i bs
+copied s bs i n h e =
+    rw (sets-eq bs s i (omega arith), e, drop-drop n i s)
+    (sym (append_assoc (take i s) bs (drop (i + n) s)))
+
+-- the bytes of a number, lowest first
+pub bytes4-is : (x : ℕ) → to_le_bytes w32 x ≡ bytes4 x
+bytes4-is x =
+    let c : x / 65536 % 256 ≡ x / 256 / 256 % 256 = omega arith in
+    let d : x / 16777216 % 256 ≡ x / 256 / 256 / 256 % 256 = omega arith in
+    rw (c, d)
+
+pub put-sets : (s : List ℕ) (k x : ℕ) → k < length s / 4 → put_word s k x ≡ sets s (4 * k) (bytes4 x)
 unfolding put_word
-put_next p q k x e h =
-    rw (lt-ltb k (length (p ++ q) / 4) (omega (arith, length-append p q)), place 2, place 1, add-one (4 * k))
-    (sets-after p q (bytes4 x) (4 * k) e h)
+put-sets s k x h = rw (lt-ltb k (length s / 4) h, place 2, place 1, add-one (4 * k))
   where
     place : (i : ℕ) → 4 * k + suc i ≡ suc (4 * k + i)
     place i = omega arith
+
+-- so that number k is put by copying its bytes there
+pub put-copied : (s bs : List ℕ) (k n x : ℕ) → k < length s / 4 → n ≡ 4 → bs ≡ to_le_bytes w32 x → put_mid (4 * k) n s bs ≡ put_word s k x
+put-copied s bs k n x h e q =
+    rw (e, q ∙ bytes4-is x) (copied s (bytes4 x) (4 * k) 4 (omega arith) refl ∙ sym (put-sets s k x h))
+
+-- after the numbers that were put, the next
+pub put_next : (p q : List ℕ) (k x : ℕ) → length p ≡ 4 * k → 4 ≤ length q → put_word (p ++ q) k x ≡ (p ++ bytes4 x) ++ drop 4 q
+put_next p q k x e h = put-sets (p ++ q) k x (omega (arith, length-append p q)) ∙ sets-after p q (bytes4 x) (4 * k) e h
 
 -- ---- a buffer filled number by number
 

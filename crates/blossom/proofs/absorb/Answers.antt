@@ -4,12 +4,12 @@ use Rattle.blossom.proofs.absorb.Goals as goal
 
 pub returns : goal.returns
 returns c =
-    absorbed _ _ _ _ _ _ _ _ _ _ _ _ _ _ _ _ _ _ _ _ _ _ _ _ _ _ _
+    absorbed c.args.desk.now c.args.v c.args.z _ _ _ _ _ _ _ _ _ _ _
     c.at-c.ensures
     c.at-g.ensures
-    c.put_group.ensures
+    c.put.ensures
     c.shift.ensures
-    c.copy_group.ensures
-    c.copy_group-2.ensures
-    c.copy_group-3.ensures c.put_group-2.ensures
-    c.around-t.ensures c.one_more.ensures
+    c.copy_cell.ensures
+    c.copy_cell-2.ensures
+    c.copy_cell-3.ensures c.put-2.ensures c.from-m.ensures
+    c.around.ensures c.one_more-desk.ensures

@@ -1,17 +1,18 @@
--- `load` meets its contract. The invariant: the cells before v are read. Assumes nothing.
+-- `load` meets its contract: each cell is what the function gives for its number. Assumes nothing.
+use Prim.Native.Nat.{◌<◌}
 use mathlib.Core.Path.{sym, ◌∙◌}
 use native.Mathlib.Omega.{arith}
-use Rattle.words.proofs.Bytes.{cells-again, cells-end}
-use Rattle.buffers.proofs.Written.{partners-length, partners-cell}
+use lib.Seq.{ext_get_or}
 use Rattle.std.proofs.Common.{rules}
+use Rattle.limits.specs.Limits.{routes}
+use Rattle.words.specs.Words.{word}
+use Rattle.buffers.proofs.Written.{partners-length, partners-cell, made-cell}
 use Rattle.buffers.proofs.load.Goals as goal
-
-pub loop-v-preserved : goal.loop-v-preserved
-loop-v-preserved c =
-    let l = c.loop-v in
-    (search rules, l.invariant.1, cells-again _ _ _ l.v _ (omega (arith, partners-length c.args.pairing.now, c.loop-v-test.true)) (omega (arith, l.invariant.1, c.loop-v-test.true)) l.invariant.2 (c.word_at.ensures ∙ sym (partners-cell _ l.v c.loop-v-test.true)))
 
 pub returns : goal.returns
 returns c =
-    let l = c.loop-v in
-    cells-end _ _ _ l.v (partners-length _ ∙ sym l.invariant.1) (omega (arith, l.invariant.1, c.loop-v-test.false)) l.invariant.2
+    let p = c.args.pairing.now in
+    let made = c.from_fn.ensures.items in
+    ext_get_or 0 _ _ (made.long ∙ sym (partners-length p)) (λ v h.
+    let below : v < routes = omega (arith, h, made.long) in
+    made-cell _ (word p) _ (λ u x q k. search rules) _ routes made v below ∙ sym (partners-cell p v below))

@@ -3,10 +3,10 @@ use borrow.Author.Tests.{lt-ltb, le-ltb}
 use Rattle.checks.specs.Checks.{id_reply}
 use Rattle.checks.proofs.id_refusal.Goals as goal
 
-pub returns-then-id-lt-IDS : goal.returns-then-id-lt-IDS
+pub returns-then-id-ge-IDS : goal.returns-then-id-ge-IDS
 unfolding id_reply
-returns-then-id-lt-IDS c = simp (lt-ltb _ _ c.if-id-lt-IDS.true)
+returns-then-id-ge-IDS c = simp (le-ltb _ _ c.if-id-ge-IDS.true)
 
 pub returns : goal.returns
 unfolding id_reply
-returns c = simp (le-ltb _ _ c.if-id-lt-IDS.false)
+returns c = simp (lt-ltb _ _ c.if-id-ge-IDS.false)

@@ -1,13 +1,13 @@
-use Prim.Native.Nat.{◌≤◌, ◌-◌}
 use mathlib.Core.Path.{◌≡◌}
 use lib.ListN.{length}
-use Rattle.laid.specs.Answers.{laid}
+use Rattle.lent.specs.Operations.{operations}
+use Rattle.laid.specs.Lays.{laid_in}
 use Rattle.drive.proofs.Steps.{Leads}
 use Rattle.drive.proofs.perform_all.Given as goal
 
-abbrev pub invariant-loop-at : goal.invariant-loop-at
-invariant-loop-at l =
-    (l.at ≤ l.len) × (l.len ≡ length l.ops) × (length l.answers ≡ length l.initial.answers) × Leads l.ops l.initial.pairing (laid l.initial.answers 0) l.pairing (laid l.answers l.place) l.count l.at
-
-abbrev pub decreases-loop-at : goal.decreases-loop-at
-decreases-loop-at l = l.len - l.at
+abbrev pub invariant-loop-operation : goal.invariant-loop-operation
+invariant-loop-operation l = record {
+  counted : l.count ≡ length l.yielded;
+  same : l.answers.numbers.ghost_name ≡ l.initial.answers.numbers.ghost_name;
+  leads : Leads (operations l.ops) l.initial.pairing (laid_in l.initial.answers) l.pairing (laid_in l.answers) l.count;
+}

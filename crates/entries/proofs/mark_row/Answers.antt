@@ -1,20 +1,15 @@
 -- `mark_row` meets its contract. The invariant: marking what is left of the row leads to the end. Assumes nothing.
-use mathlib.Core.Path.{refl}
+use Rattle.std.proofs.lemmas.List.{length_push}
 use Rattle.entries.specs.Quick.{mark_row}
-use Rattle.words.proofs.Bytes.{over-again, over-end}
-use Rattle.std.proofs.Common.{rules}
+use Rattle.words.proofs.Bytes.{over-next, over-none}
 use Rattle.entries.proofs.mark_row.Goals as goal
 
-pub loop-i-init : goal.loop-i-init
-loop-i-init c = (search rules, refl, refl)
+pub loop-w-init : goal.loop-w-init
+loop-w-init c = rw (c.into_iter-w-iterator.ensures.into_iter_gives, c.numbers_of-w-items.ensures)
 
-pub loop-i-preserved : goal.loop-i-preserved
-loop-i-preserved c =
-    let l = c.loop-i in
-    (search rules, refl, over-again _ _ _ _ _ l.i c.loop-i-test.true l.invariant.2 (rw (← c.word_at.ensures) c.mark.ensures))
+pub loop-w-preserved : goal.loop-w-preserved
+loop-w-preserved c = over-next _ _ _ _ _ _ _ _ _ c.in-Some.ensures.steps (length_push _ _) c.loop-w.invariant c.mark.ensures
 
 pub returns : goal.returns
 unfolding mark_row
-returns c =
-    let l = c.loop-i in
-    over-end _ _ _ _ l.i c.loop-i-test.false l.invariant.2
+returns c = over-none _ _ _ _ _ c.in-None.ensures.steps.0 c.loop-w.invariant

@@ -1,12 +1,10 @@
-use Prim.Native.Nat.{◌≤◌, ◌-◌, ◌/◌}
 use mathlib.Core.Path.{◌≡◌}
-use lib.ListN.{length, drop}
+use lib.ListN.{length}
 use Rattle.words.specs.Words.{numbers, over}
 use Rattle.marks.specs.Marks.{mark}
 use Rattle.entries.proofs.mark_row.Given as goal
 
-abbrev pub invariant-loop-i : goal.invariant-loop-i
-invariant-loop-i l = (l.i ≤ l.m) × (l.m ≡ length l.row / 4) × (over (λ k w u. mark u l.v w) l.t l.i (drop l.i (numbers l.row)) ≡ over (λ k w u. mark u l.v w) l.initial.t 0 (numbers l.row))
-
-abbrev pub decreases-loop-i : goal.decreases-loop-i
-decreases-loop-i l = l.m - l.i
+abbrev pub invariant-loop-w : goal.invariant-loop-w
+invariant-loop-w l =
+    over (λ k w u. mark u l.v w) l.t (length l.yielded) (numbers l.w-iterator.rest.now)
+    ≡ over (λ k w u. mark u l.v w) l.initial.t 0 (numbers l.row)

@@ -1,11 +1,7 @@
-use Prim.Native.Nat.{◌≤◌, ◌-◌}
 use mathlib.Core.Path.{◌≡◌}
-use Rattle.rows.specs.Sheet.{order, graph_of}
+use Rattle.rows.specs.Sheet.{graph_of}
 use Rattle.entries.specs.Quick.{mark_rows}
 use Rattle.entries.proofs.mark_rows.Given as goal
 
 abbrev pub invariant-loop-v : goal.invariant-loop-v
-invariant-loop-v l = (l.v ≤ l.n) × (l.n ≡ order l.s) × (l.t ≡ mark_rows (graph_of l.s) l.v l.initial.t)
-
-abbrev pub decreases-loop-v : goal.decreases-loop-v
-decreases-loop-v l = l.n - l.v
+invariant-loop-v l = l.t ≡ mark_rows (graph_of l.s) l.v l.initial.t

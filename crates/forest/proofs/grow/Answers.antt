@@ -4,11 +4,11 @@ use Rattle.forest.proofs.grow.Goals as goal
 
 pub returns : goal.returns
 returns c =
-    grown _ _ _ _ _ _ _ _ _ _ _ _ _ _ _ _ _ _ _ _ _ _ _
+    grown c.args.desk.now _ _ _ _ _ _ _ _ _ _ _ _ _
     c.at-u.ensures
     c.at-g.ensures
-    c.at_group-r.ensures
-    c.at_group.ensures
+    c.at-r.ensures
+    c.at.ensures
     c.one_more-j.ensures
     c.one_more-k.ensures
     c.put.ensures

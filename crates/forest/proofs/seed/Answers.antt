@@ -2,18 +2,17 @@
 use mathlib.Core.Path.{sym}
 use Rattle.theory.proofs.Search.Steps.{seed-none}
 use Rattle.forest.proofs.Laws.{seeds-on, seeds-out}
-use Rattle.std.proofs.Common.{rules}
 use Rattle.forest.proofs.seed.Goals as goal
 
 pub loop-k-init : goal.loop-k-init
-loop-k-init c = (search rules, sym (seed-none _ _ _))
+loop-k-init c = sym (seed-none _ _ _)
 
 pub loop-k-preserved : goal.loop-k-preserved
 loop-k-preserved c =
     let l = c.loop-k in
-    (search rules, seeds-on _ _ _ _ l.k l.invariant.1 c.plant-t.ensures)
+    seeds-on _ _ _ _ l.k l.invariant c.plant.ensures
 
 pub returns : goal.returns
 returns c =
     let l = c.loop-k in
-    seeds-out _ _ _ l.k _ l.invariant c.loop-k-test.false
+    seeds-out _ _ _ l.k _ l.invariant l.auto.k-end c.loop-k-test.false

@@ -17,8 +17,8 @@ returns-then-finished c = (
   finished-one _ _ _ c.requires _ _ _ _ _ _ c.order-n.ensures c.load-p.ensures c.climb-finished.ensures c.if-finished.true,
 )
 
-pub returns : goal.returns
-returns c = (
+pub returns-else-finished : goal.returns-else-finished
+returns-else-finished c = (
   saved _ _ _ c.requires _ _ _ _ _ _ c.order-n.ensures c.load-p.ensures c.climb-finished.ensures _ c.save.ensures,
   marks-kept _ _ _ c.requires _ _ _ _ _ _ c.order-n.ensures c.load-p.ensures c.climb-finished.ensures c.if-finished.false,
   finished-none _ _ _ c.requires _ _ _ _ _ _ c.order-n.ensures c.load-p.ensures c.climb-finished.ensures c.if-finished.false,

@@ -1,23 +1,14 @@
 -- `ids_at` meets its contract: the list ends before the ids, or they are a stretch of it. Assumes nothing.
-use native.Mathlib.Omega.{arith}
-use Rattle.lent.proofs.Ends.{end-ids, ids-none, ids-some}
-use Rattle.std.proofs.Common.{rules}
+use mathlib.Core.Path.{refl}
+use Rattle.lent.proofs.Ends.{ids-none, ids-part}
+use Rattle.std.proofs.Common.{arith}
 use Rattle.lent.proofs.ids_at.Goals as goal
+use Rattle.lent.proofs.ids_at.Goals.{in_default-via-in-Some+then-get-lt2, in_default-via-in_default}
 
-pub returns-then-len-at : goal.returns-then-len-at
-returns-then-len-at c = ids-none _ _ (search rules)
+pub returns-in_default : goal.returns-in_default
+returns-in_default c = elim c.in_default.branch [ in_default-via-in-Some+then-get-lt2 w ↦ ids-none _ _ (grind arith) | in_default-via-in_default w ↦ ids-none _ _ (grind arith) ]
 
-pub returns-then-len-at-le2 : goal.returns-then-len-at-le2
-returns-then-len-at-le2 c = ids-none _ _ (search rules)
-
-pub slice_bounds-result-count-2 : goal.slice_bounds-result-count-2
-slice_bounds-result-count-2 c = let e = end-ids _ _ _ _ (search rules) c.end_of-to.ensures in omega arith
-
-pub slice_bounds-result-start-2 : goal.slice_bounds-result-start-2
-slice_bounds-result-start-2 c = let e = end-ids _ _ _ _ (search rules) c.end_of-to.ensures in omega arith
-
-pub slice_bounds-result-end-2 : goal.slice_bounds-result-end-2
-slice_bounds-result-end-2 c = let e = end-ids _ _ _ _ (search rules) c.end_of-to.ensures in omega arith
-
-pub returns : goal.returns
-returns c = ids-some _ _ _ _ (search rules) c.number_at.ensures c.end_of-to.ensures
+pub returns-in-Some-len2-up : goal.returns-in-Some-len2-up
+returns-in-Some-len2-up c =
+    let b = c.in-Some-len2-up in
+    ids-part _ _ _ _ _ b.ensures.lookup.0.2 b.len_at_least refl c.min.ensures

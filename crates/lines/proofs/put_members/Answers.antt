@@ -1,18 +1,11 @@
--- `put_members` meets its contract. The invariant: those below v are put. Assumes nothing.
+-- `put_members` meets its contract. Assumes nothing.
 use mathlib.Core.Path.{refl}
-use Rattle.lines.proofs.Said.{each_none, each_again, each-end}
-use Rattle.std.proofs.Common.{rules}
+use Rattle.lines.specs.Lines.{member}
+use Rattle.lines.proofs.Said.{each-none, each-more}
 use Rattle.lines.proofs.put_members.Goals as goal
 
 pub loop-v-init : goal.loop-v-init
-loop-v-init c = (search rules, each_none _ _ _)
+loop-v-init c = each-none (member c.args.witness.now) c.args.text.now
 
 pub loop-v-preserved : goal.loop-v-preserved
-loop-v-preserved c =
-    let l = c.loop-v in
-    (search rules, each_again _ _ _ _ _ _ _ _ l.v l.invariant.1 refl c.put_member-at.ensures)
-
-pub returns : goal.returns
-returns c =
-    let l = c.loop-v in
-    each-end _ _ _ _ _ l.v _ l.invariant.0 c.loop-v-test.false l.invariant.1
+loop-v-preserved c = each-more (member c.args.witness.now) _ _ _ _ c.loop-v.v c.loop-v.invariant refl c.put_member.ensures

@@ -1,12 +1,7 @@
-use Prim.Native.Nat.{◌≤◌, ◌-◌}
 use mathlib.Core.Path.{◌≡◌}
 use Rattle.mates.specs.Partners.{is_paired}
 use Rattle.graphs.specs.Count.{count}
-use Rattle.limits.specs.Limits.{routes}
 use Rattle.mates.proofs.paired_ids.Given as goal
 
 abbrev pub invariant-loop-i : goal.invariant-loop-i
-invariant-loop-i l = (l.i ≤ routes) × (l.n ≡ count l.i (is_paired l.t))
-
-abbrev pub decreases-loop-i : goal.decreases-loop-i
-decreases-loop-i l = routes - l.i
+invariant-loop-i l = l.n ≡ count l.i (is_paired l.t)

@@ -5,10 +5,5 @@ use Rattle.measuring.proofs.surplus_call.Goals as goal
 pub returns-then-answer-ne32 : goal.returns-then-answer-ne32
 returns-then-answer-ne32 c = surplus-unanswered _ _ _ c.if-answer-ne32.true
 
-pub twos_of-requires : goal.twos_of-requires
-twos_of-requires c =
-    let k = c.weigh-weighed.ensures in
-    (k.odd-small, k.size_small)
-
 pub returns : goal.returns
-returns c = surplus-answered _ _ _ c.if-answer-ne32.false _ _ _ _ _ _ _ _ c.weigh-weighed.ensures c.tell-told.ensures c.put_told.ensures c.twos_of.ensures c.put_long.ensures
+returns c = let h = c.surplus_told-surplus.ensures in surplus-answered _ _ _ c.if-answer-ne32.false _ _ _ _ h.0 h.1 c.put_told.ensures c.put_long.ensures

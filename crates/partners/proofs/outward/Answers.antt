@@ -2,18 +2,17 @@
 use mathlib.Core.Path.{sym}
 use Rattle.theory.proofs.Search.Steps.{outward-none}
 use Rattle.partners.proofs.Laws.{outward-on, outward-out}
-use Rattle.std.proofs.Common.{rules}
 use Rattle.partners.proofs.outward.Goals as goal
 
 pub loop-i-init : goal.loop-i-init
-loop-i-init c = (search rules, sym (outward-none _ _ _))
+loop-i-init c = sym (outward-none _ _ _)
 
 pub loop-i-preserved : goal.loop-i-preserved
 loop-i-preserved c =
     let l = c.loop-i in
-    (search rules, outward-on _ _ _ _ l.i _ l.invariant.1 c.none_or-w.ensures c.put.ensures)
+    outward-on _ _ _ _ l.i _ l.invariant c.none_or-w.ensures c.put.ensures
 
 pub returns : goal.returns
 returns c =
     let l = c.loop-i in
-    outward-out _ _ _ l.i _ l.invariant c.loop-i-test.false
+    outward-out _ _ _ l.i _ l.invariant l.auto.i-end c.loop-i-test.false

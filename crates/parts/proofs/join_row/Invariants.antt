@@ -1,4 +1,3 @@
-use Prim.Native.Nat.{◌≤◌, ◌-◌, ◌/◌}
 use mathlib.Core.Path.{◌≡◌}
 use lib.ListN.{length, drop}
 use Rattle.graphs.specs.Graph.{in_set}
@@ -8,8 +7,5 @@ use Rattle.parts.proofs.join_row.Given as goal
 
 abbrev pub invariant-loop-i : goal.invariant-loop-i
 invariant-loop-i l =
-    (l.i ≤ l.m) × (l.m ≡ length l.row / 4) × (length l.c ≡ length l.initial.c)
+    (length l.c ≡ length l.initial.c)
     × (over (λ k w t. link (in_set l.set) t l.v w) l.c l.i (drop l.i (numbers l.row)) ≡ link_row (in_set l.set) l.initial.c l.v (numbers l.row))
-
-abbrev pub decreases-loop-i : goal.decreases-loop-i
-decreases-loop-i l = l.m - l.i

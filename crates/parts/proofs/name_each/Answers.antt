@@ -6,14 +6,14 @@ use Rattle.std.proofs.Common.{rules}
 use Rattle.parts.proofs.name_each.Goals as goal
 
 pub loop-i-init : goal.loop-i-init
-loop-i-init c = (search rules, refl, swept_none _ _)
+loop-i-init c = (refl, swept_none _ _)
 
 pub loop-i-preserved : goal.loop-i-preserved
 loop-i-preserved c =
     let l = c.loop-i in
-    (search rules, simp length-set l.invariant.1, swept-again _ _ l.i _ _ l.invariant.2 refl)
+    (simp length-set l.invariant.0, swept-again _ _ l.i _ _ l.invariant.1 refl)
 
 pub returns : goal.returns
 returns c =
     let l = c.loop-i in
-    swept-run _ l.i _ l.invariant.2 (search rules)
+    swept-run _ l.i _ l.invariant.1 (search rules)

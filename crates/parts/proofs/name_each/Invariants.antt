@@ -1,11 +1,7 @@
-use Prim.Native.Nat.{◌≤◌, ◌-◌}
 use mathlib.Core.Path.{◌≡◌}
 use lib.ListN.{length}
 use Rattle.parts.proofs.Swept.{swept}
 use Rattle.parts.proofs.name_each.Given as goal
 
 abbrev pub invariant-loop-i : goal.invariant-loop-i
-invariant-loop-i l = (l.i ≤ length l.initial.c) × (length l.c ≡ length l.initial.c) × (l.c ≡ swept (λ k x. k) l.i l.initial.c)
-
-abbrev pub decreases-loop-i : goal.decreases-loop-i
-decreases-loop-i l = length l.initial.c - l.i
+invariant-loop-i l = (length l.c ≡ length l.initial.c) × (l.c ≡ swept (λ k x. k) l.i l.initial.c)

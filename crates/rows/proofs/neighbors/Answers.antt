@@ -5,8 +5,8 @@ use Rattle.rows.proofs.neighbors.Goals as goal
 
 pub returns-then-n-id : goal.returns-then-n-id
 unfolding neighbors_of
-returns-then-n-id c = rw (← c.word_at-n.ensures) (simp (le-ltb _ _ c.if-n-id.true))
+returns-then-n-id c = rw (← c.order-n.ensures) (simp (le-ltb _ _ c.if-n-id.true))
 
 pub returns : goal.returns
 unfolding neighbors_of
-returns c = rw (← c.word_at-n.ensures, ← c.word_at-a.ensures, ← c.word_at-e.ensures) (simp (lt-ltb _ _ c.if-n-id.false))
+returns c = rw (← c.order-n.ensures, ← c.word_at-a.ensures, ← c.word_at-e.ensures) (simp (lt-ltb _ _ c.if-n-id.false))

@@ -1,25 +1,23 @@
--- `place` meets its contract. The invariant: x stands at no place before i. Assumes nothing.
-use mathlib.Core.Path.{refl, sym, ◌∙◌}
-use borrow.Author.Tests.{eq-eqb, ne_eqb}
-use Rattle.graphs.proofs.Count.{least-none, least-past, least_at, least-end}
-use Rattle.rows.proofs.Stretches.{place_is}
-use Rattle.std.proofs.Common.{rules}
+-- `place` meets its contract: the first number that equals x. Assumes nothing.
+use mathlib.Core.Path.{ap, ◌∙◌}
+use mathlib.Core.Logic.{inl}
+use native.Mathlib.Omega.{arith}
+use lib.Dec.{eqb}
+use Rattle.std.proofs.Common.{rules, tests}
+use Rattle.std.proofs.lemmas.Iterator.Search.{position_from_yields_List}
+use Rattle.std.proofs.lemmas.Iterator.Consumers.{YieldsList-from_first}
+use Rattle.words.specs.Words.{numbers}
+use Rattle.words.specs.declared.Numbers.{Numbers}
+use Rattle.words.proofs.Bytes.{numbers-length}
+use Rattle.rows.proofs.Stretches.{place_in-position}
 use Rattle.rows.proofs.place.Goals as goal
 
-pub loop-i-init : goal.loop-i-init
-loop-i-init c = (search rules, refl, least-none _)
-
-pub returns-then-word_at-x : goal.returns-then-word_at-x
-returns-then-word_at-x c =
-    let l = c.loop-i in
-    sym (place_is _ _ ∙ least_at _ l.i _ (search rules) l.invariant.2 (eq-eqb _ _ (sym c.word_at.ensures ∙ c.if-word_at-x.true)))
-
-pub loop-i-preserved : goal.loop-i-preserved
-loop-i-preserved c =
-    let l = c.loop-i in
-    (search rules, refl, least-past _ l.i l.invariant.2 (ne_eqb _ _ (λ e. c.if-word_at-x.false (c.word_at.ensures ∙ e))))
+pub position-requires-clause-fits : goal.position-requires-clause-fits
+position-requires-clause-fits c = inl (rw c.numbers_of.ensures (omega (arith, numbers-length c.args.row.now)))
 
 pub returns : goal.returns
 returns c =
-    let l = c.loop-i in
-    sym (place_is _ _ ∙ least-end _ l.i _ l.invariant.0 c.loop-i-test.false l.invariant.2)
+    position_from_yields_List (λ w. eqb w c.args.x) c.position.new.self _ _ c.position.ensures.ran
+    (YieldsList-from_first (λ x. x) (λ (s : Numbers). numbers s.rest.now) {s = c.numbers_of.result} _ (ap numbers c.numbers_of.ensures))
+    (λ w b q h. search (rules, tests))
+    ∙ place_in-position _ _

@@ -3,8 +3,8 @@ use mathlib.Core.Path.{sym, ◌∙◌}
 use Rattle.rows.proofs.Stretches.{row-there, row-none}
 use Rattle.rows.proofs.row.Goals as goal
 
-pub returns-in-Row : goal.returns-in-Row
-returns-in-Row c = c.part_of.ensures ∙ row-there _ _ _ _ (sym c.in-Row.ensures)
+pub returns-in-Ok : goal.returns-in-Ok
+returns-in-Ok c = c.part_of.ensures ∙ row-there _ _ _ (sym c.in-Ok.ensures)
 
-pub returns : goal.returns
-returns c = c.part_of-2.ensures ∙ row-none _ _ _ (sym c.neighbors-at.ensures ∙ c.in_default.is)
+pub returns-in-Err : goal.returns-in-Err
+returns-in-Err c = row-none _ _ _ (sym c.in-Err.ensures)

@@ -1,4 +1,3 @@
-use Prim.Native.Nat.{◌≤◌, ◌-◌}
 use mathlib.Core.Path.{◌≡◌}
 use Prim.Native.Nat.{◌+◌}
 use mathlib.Core.Bool.{true}
@@ -8,7 +7,4 @@ use Rattle.words.specs.Words.{word}
 use Rattle.sheet.proofs.starts_rise.Given as goal
 
 abbrev pub invariant-loop-k : goal.invariant-loop-k
-invariant-loop-k l = (l.k ≤ l.n) × (all l.k (λ j. leb (word l.s (j + 1)) (word l.s (j + 1 + 1))) ≡ true)
-
-abbrev pub decreases-loop-k : goal.decreases-loop-k
-decreases-loop-k l = l.n - l.k
+invariant-loop-k l = all l.k (λ j. leb (word l.s (j + 1)) (word l.s (j + 1 + 1))) ≡ true

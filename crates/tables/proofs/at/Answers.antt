@@ -3,10 +3,10 @@ use borrow.Author.Tests.{lt-ltb, le-ltb}
 use Rattle.theory.specs.Search.Tables.{cell}
 use Rattle.tables.proofs.at.Goals as goal
 
-pub returns-then-k-lt-ROUTES : goal.returns-then-k-lt-ROUTES
+pub returns-then-k : goal.returns-then-k
 unfolding cell
-returns-then-k-lt-ROUTES c = simp (lt-ltb _ _ c.if-k-lt-ROUTES.true)
+returns-then-k g c = simp (lt-ltb _ _ c.if-k.true)
 
 pub returns : goal.returns
 unfolding cell
-returns c = simp (le-ltb _ _ c.if-k-lt-ROUTES.false)
+returns g c = simp (le-ltb _ _ c.if-k.false)

@@ -3,10 +3,10 @@ use borrow.Author.Tests.{lt-ltb, le-ltb}
 use Rattle.theory.specs.Search.Tables.{store}
 use Rattle.tables.proofs.put.Goals as goal
 
-pub returns-then-k-lt-ROUTES : goal.returns-then-k-lt-ROUTES
+pub returns-then-k : goal.returns-then-k
 unfolding store
-returns-then-k-lt-ROUTES c = simp (lt-ltb _ _ c.if-k-lt-ROUTES.true)
+returns-then-k g c = simp (lt-ltb _ _ c.if-k.true)
 
-pub returns-else-k-lt-ROUTES : goal.returns-else-k-lt-ROUTES
+pub returns-else-k : goal.returns-else-k
 unfolding store
-returns-else-k-lt-ROUTES c = simp (le-ltb _ _ c.if-k-lt-ROUTES.false)
+returns-else-k g c = simp (le-ltb _ _ c.if-k.false)

@@ -1,16 +1,16 @@
 -- `left` meets its contract: each call is a part of the definition. Assumes nothing.
-use mathlib.Core.List.{List}
-use Prim.Native.Nat.{ℕ}
-use Rattle.theory.specs.Search.Tables.{Rings}
+use mathlib.Core.Path.{◌≡◌}
+use Rattle.tables.specs.declared.Desk.{Desk}
 use Rattle.walks.proofs.Laws.{went-left}
 use Rattle.walks.proofs.left.Goals as goal
 
 pub returns : goal.returns
 returns c =
-    λ (rank : List ℕ) (q : Rings).
-    went-left _ _ _ _ rank q _ _ _ _ _ _ _ _ _ _ _ _ _ _ _ _ _ _
+    let a = c.args in
+    λ (d : Desk) (et : d.trees ≡ a.t.now).
+    went-left d a.t.now et a.r.now a.z _ _ _ _ _ _ _ _ _ _
     c.at-g.ensures
-    c.at_group-b.ensures
+    c.at-b.ensures
     c.at-i.ensures
     c.at-p.ensures
     c.at-q.ensures

@@ -3,7 +3,7 @@ use Rattle.weights.proofs.Signed.{surplus-fits, surplus-read}
 use Rattle.weights.proofs.surplus_of.Goals as goal
 
 pub overflow_sub-result : goal.overflow_sub-result
-overflow_sub-result c = surplus-fits _ _ c.requires.0 c.requires.1
+overflow_sub-result c = rw (c.from.ensures, c.from-2.ensures) (surplus-fits _ _ c.requires.0 c.requires.1)
 
 pub returns : goal.returns
-returns c = surplus-read _ _ c.requires.0 c.requires.1
+returns c = rw (c.from.ensures, c.from-2.ensures) (surplus-read _ _ c.requires.0 c.requires.1)

@@ -3,18 +3,24 @@ use mathlib.Core.Path.{sym, ◌∙◌}
 use native.Mathlib.Omega.{arith}
 use lib.Seq.{length-take-le}
 use Rattle.sheet.proofs.Read.{order-most}
+use Rattle.weights.proofs.Weights.{weighs}
 use Rattle.weights.proofs.weight_of.Goals as goal
 
 pub slice_bounds-table-end : goal.slice_bounds-table-end
 slice_bounds-table-end c = omega (arith, c.order-n.ensures, order-most c.args.s.now c.requires.0)
 
-pub slice_bounds-weight_in-end : goal.slice_bounds-weight_in-end
-slice_bounds-weight_in-end c = sym (length-take-le _ _ (omega (arith, c.order-n.ensures, order-most c.args.s.now c.requires.0)))
+pub slice_bounds-cut_of-end : goal.slice_bounds-cut_of-end
+slice_bounds-cut_of-end c = sym (length-take-le _ _ (omega (arith, c.order-n.ensures, order-most c.args.s.now c.requires.0)))
 
-pub weight_in-requires : goal.weight_in-requires
-weight_in-requires c =
+pub cut_of-cut-requires : goal.cut_of-cut-requires
+cut_of-cut-requires c =
     record {
       accepted = c.requires.0;
       cells = length-take-le _ _ (omega (arith, c.order-n.ensures, order-most c.args.s.now c.requires.0)) ∙ c.order-n.ensures;
       marks = c.requires.1;
     }
+
+pub returns : goal.returns
+returns c =
+    let e = c.cut_of-cut.ensures in
+    weighs c.args.s.now c.args.witness.now c.requires.0 _ _ _ _ c.requires.1 e.0 e.1 c.weigh.ensures.0 c.weigh.ensures.1

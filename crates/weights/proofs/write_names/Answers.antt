@@ -7,15 +7,15 @@ use Rattle.std.proofs.Common.{rules}
 use Rattle.weights.proofs.write_names.Goals as goal
 
 pub loop-v-init : goal.loop-v-init
-loop-v-init c = (search rules, refl, fill_none _ _)
+loop-v-init c = (refl, fill_none _ _)
 
 pub loop-v-preserved : goal.loop-v-preserved
 loop-v-preserved c =
     let l = c.loop-v in
     let e = c.put_word.ensures in
-    (search rules, ap length e ∙ put-length _ _ _ ∙ l.invariant.1, e ∙ fill-again _ _ _ l.v _ (omega (arith, c.requires.1, c.loop-v-test.true)) l.invariant.2 c.name_at.ensures)
+    (ap length e ∙ put-length _ _ _ ∙ l.invariant.0, e ∙ fill-again _ _ _ l.v _ (omega (arith, c.requires, c.loop-v-test.true)) l.invariant.1 c.name_at.ensures)
 
 pub returns : goal.returns
 returns c =
     let l = c.loop-v in
-    fill_end _ _ _ l.v _ c.requires.1 l.invariant.0 c.loop-v-test.false l.invariant.2
+    fill_end _ _ _ l.v _ c.requires (search rules) c.loop-v-test.false l.invariant.1

@@ -1,27 +1,21 @@
 -- `check` meets its contract: the checks in turn, and what acceptance means by the laws of Checker. Assumes nothing.
+use mathlib.Core.Path.{sym}
+use Rattle.std.proofs.Common.{rules}
 use Rattle.witness.specs.Verdict.{check_of}
-use Rattle.witness.proofs.Checker.{checked, passed-improve}
-use Rattle.witness.proofs.Verdicts.{stops, goes_on}
+use Rattle.witness.proofs.Checker.{checked, begins}
 use Rattle.witness.proofs.check.Goals as goal
 
-pub returns-then-refuses : goal.returns-then-refuses
+pub returns-in_err-improve_verdict : goal.returns-in_err-improve_verdict
 unfolding check_of
-returns-then-refuses c = checked _ _ _ _ (stops _ _ _ _ c.improve_verdict-a.ensures c.refuses.ensures c.if-refuses.true)
+returns-in_err-improve_verdict c = checked _ _ _ _ (search rules)
 
-pub returns-then-refuses-2 : goal.returns-then-refuses-2
+pub returns-in_err-mark_verdict : goal.returns-in_err-mark_verdict
 unfolding check_of
-returns-then-refuses-2 c =
-    checked _ _ _ _ (goes_on _ _ _ _ _ c.improve_verdict-a.ensures c.refuses.ensures c.if-refuses.false
-    (stops _ _ _ _ (rw c.order.ensures at c.mark_verdict-b.ensures) c.refuses-2.ensures c.if-refuses-2.true))
+returns-in_err-mark_verdict c = checked _ _ _ _ (search rules)
 
 pub bound_verdict-requires : goal.bound_verdict-requires
-bound_verdict-requires c =
-    let start = passed-improve _ _ _ _ _ c.improve_verdict-a.ensures c.refuses.ensures c.if-refuses.false in
-    (start.accepted, start.long)
+bound_verdict-requires c = let start = begins _ _ _ (sym c.in_ok-improve_verdict.ensures) in (start.accepted, start.long)
 
 pub returns : goal.returns
 unfolding check_of
-returns c =
-    checked _ _ _ _ (goes_on _ _ _ _ _ c.improve_verdict-a.ensures c.refuses.ensures c.if-refuses.false
-    (goes_on _ _ _ _ _ (rw c.order.ensures at c.mark_verdict-b.ensures) c.refuses-2.ensures c.if-refuses-2.false
-    c.bound_verdict.ensures))
+returns c = checked _ _ _ _ (search rules)

@@ -1,2 +1,0 @@
--- Twos is for the proof of `twos_of` alone.
-mod Twos

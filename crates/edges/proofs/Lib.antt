@@ -1,2 +1,0 @@
--- Edges is for the proof of `has_edge` alone.
-mod Edges

@@ -1,2 +1,0 @@
--- For the crates above: Replies (which reply does not refuse).
-pub mod Replies
