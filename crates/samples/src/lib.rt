@@ -2,6 +2,9 @@
 // recorded texts and of answers that they read. Nothing is asked of a caller: what finds no room is not put.
 #![tactic(auto)]
 
+ghost use Rattle.std.specs.Prelude.{◌≡◌};
+ghost use Rattle.words.specs.Words.{put_word};
+
 use limits::{NONE, ROUTES};
 use words::{put_word, word_at};
 
@@ -82,7 +85,9 @@ pub fn put_all(s: &mut [u8; LARGE], n: u32) -> u32 {
 }
 
 // v and w made partners in the bytes of a pairing.
-pub fn put_pair(pairing: &mut [u8], v: u32, w: u32) {
+pub fn put_pair(pairing: &mut [u8], v: u32, w: u32)
+    ensures { pairing.new ≡ put_word (put_word pairing.old v w) w v }
+{
     put_word(pairing, v as usize, w);
     put_word(pairing, w as usize, v);
 }

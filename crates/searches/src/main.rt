@@ -26,6 +26,17 @@ struct Yard<'a> {
     sheet: &'a [u8],
 }
 
+impl<'a> Yard<'a> {
+    // The yard whose sheet has so many entries.
+    fn of(name: &'a [u8], routes: u32, s: &'a [u8; LARGE], total: u32) -> Yard<'a> {
+        Yard {
+            name,
+            routes,
+            sheet: front(s, sheet_length(routes, total)),
+        }
+    }
+}
+
 // The route of a digit; after 9 come letters, a for 10. A byte that is no digit names no route.
 fn route(digit: u8) -> u32 {
     match digit {
@@ -174,16 +185,7 @@ fn search_line<W: Write>(alloc: Global, out: &mut W, line: &[u8]) -> io::Result<
         put(&mut partners, pair.from, pair.to);
         put(&mut partners, pair.to, pair.from);
     }
-    let sheet = front(&s, sheet_length(routes, total));
-    search_on(
-        out,
-        &Yard {
-            name,
-            routes,
-            sheet,
-        },
-        &mut partners,
-    )
+    search_on(out, &Yard::of(name, routes, &s, total), &mut partners)
 }
 
 // The searches on the layout in which all routes are joined, the first of them paired side by side: 0 and 1, 2 and 3, and
@@ -195,16 +197,7 @@ fn search_all<W: Write>(out: &mut W, name: &[u8], routes: u32, paired: u32) -> i
     for (v, partner) in (0..paired).zip(partners.iter_mut()) {
         *partner = v ^ 1;
     }
-    let sheet = front(&s, sheet_length(routes, total));
-    search_on(
-        out,
-        &Yard {
-            name,
-            routes,
-            sheet,
-        },
-        &mut partners,
-    )
+    search_on(out, &Yard::of(name, routes, &s, total), &mut partners)
 }
 
 fn main(rt: HostRuntime) -> io::Result<()> {
