@@ -4,13 +4,14 @@ use mathlib.Core.Path.{◌≡◌, refl, ap}
 use mathlib.Core.List.{List}
 use native.Mathlib.Omega.{arith}
 use borrow.Author.Tests.{ne_eqb}
-use Rattle.std.specs.Prelude.{Result, Ok, Err, IsOkAnd, MatchResult}
+use Rattle.std.specs.Prelude.{⊤, Result, Ok, Err, IsOkAnd, MatchResult}
 use Rattle.std.specs.Result.{result_map_both}
 use Rattle.mates.specs.Partners.{id_at}
-use Rattle.pairing.specs.Answers.{pair_answer, augment_answer}
+use Rattle.pairing.specs.Answers.{pair_answer, augment_answer, handed}
 use Rattle.pairing.specs.declared.Pairing.{Pairing}
+use Rattle.refusals.specs.declared.Refusal.{Refusal}
 use Rattle.asked.specs.Kinds.{code_of}
-use Rattle.asked.specs.Replies.{order_reply, has_node_reply, edges_reply, mate_reply, next_reply, unknown_reply, reply_to}
+use Rattle.asked.specs.Replies.{answer, order_reply, has_node_reply, edges_reply, mate_reply, next_reply, unknown_reply, reply_to}
 use Rattle.asked.specs.declared.Kind.{Kind}
 use Rattle.asked.specs.declared.Kind.TheVariants.{Order, HasNode, Pair, Edges, Augment, Mate}
 use Rattle.asked.specs.declared.Reply.{Reply}
@@ -39,6 +40,13 @@ unknown-is p code ids h =
     rw
     (ne_eqb code 0 (λ e. omega arith), ne_eqb code 1 (λ e. omega arith), ne_eqb code 2 (λ e. omega arith), ne_eqb code 3 (λ e. omega arith), ne_eqb code 4 (λ e. omega arith), ne_eqb code 5 (λ e. omega arith))
     refl
+
+-- an operation in place answers what it would hand on
+pub handed-is : {P : ⊤ → ℕ → Type 0} → ((x : ⊤) (y : ℕ) → P x y → y ≡ 0)
+    → (r : Result ⊤ Refusal) (s : Result ℕ Refusal) (p : Pairing) → MatchResult r (λ x. IsOkAnd s (P x)) (λ e. s ≡ Err e) → answer s p ≡ next_reply (handed r p)
+handed-is k (Ok x) (Ok y) p h = rw (k x y h) refl
+handed-is k (Ok x) (Err e) p h = absurd h
+handed-is k (Err e) s p h = rw h refl
 
 -- an answer whose value is read by f
 pub read-is : {A E : Type 0} (f : A → ℕ) {P : A → ℕ → Type 0} → ((x : A) (y : ℕ) → P x y → y ≡ f x)

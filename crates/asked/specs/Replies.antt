@@ -2,10 +2,10 @@
 use Rattle.std.specs.Prelude.{ℕ, cond, List, [], ◌∷◌, length, eqb, Result, Ok, Err}
 use Rattle.std.specs.Result.{result_map_both, result_unwrap_or}
 use Rattle.limits.specs.Limits.{none}
-use Rattle.limits.specs.Answer.{told}
+use Rattle.limits.specs.Answer.{told, accepted}
 use Rattle.graphs.specs.Count.{bit}
 use Rattle.mates.specs.Partners.{id_at}
-use Rattle.refusals.specs.Reply.{refused_as}
+use Rattle.refusals.specs.Reply.{told_of}
 use Rattle.refusals.specs.declared.Refusal.{Refusal}
 use Rattle.pairing.specs.Answers.{order_answer, has_node_answer, pair_answer, edges_answer, augment_answer, mate_answer}
 use Rattle.pairing.specs.declared.Pairing.{Pairing}
@@ -15,8 +15,8 @@ use Rattle.asked.specs.declared.Reply.{Reply}
 
 -- the reply to an operation that hands on this pairing: its value, or 0 where it is refused
 abbrev pub answer : Result ℕ Refusal → Pairing → Reply
-answer (Ok x) p = record { told = told 0 0 0; value = x; pairing = p }
-answer (Err r) p = record { told = refused_as r; value = 0; pairing = p }
+answer (Ok x) p = record { told = told_of accepted; value = x; pairing = p }
+answer (Err r) p = record { told = told_of (Err r); value = 0; pairing = p }
 
 -- the same, where the value is read from what is answered
 abbrev pub answer_by : {A : Type 0} → (A → ℕ) → Result A Refusal → Pairing → Reply

@@ -3,11 +3,12 @@
 
 ghost use Rattle.std.specs.Prelude.{◌≡◌};
 ghost use Rattle.asked.specs.Kinds.{code_of, Decodes};
+ghost use Rattle.pairing.specs.Answers.{pair_answer, augment_answer};
 ghost use Rattle.asked.specs.Replies.{answer, next_reply, unknown_reply, reply_to};
 
 use lent::number_at;
-use limits::{NONE, Told, tell};
-use pairing::{Pairing, Refusal, Refused};
+use limits::{NONE, Told};
+use pairing::{Pairing, Refusal, tell};
 
 // Which operation is asked.
 #[derive(Clone, Copy)]
@@ -78,14 +79,21 @@ fn answer(outcome: Result<u64, Refusal>, pairing: Pairing) -> Reply
     }
 }
 
-// What `pair` and `augment` answer: no value, and the next pairing, or the same one.
-fn next_reply(outcome: Result<Pairing, Refused>) -> Reply
-    ensures { result ≡ next_reply outcome }
+// `pair`: no value, and the next pairing, or the same one where it is refused. In place: handed on in a `Result`, the pairing
+// would be copied for longer than the operation takes.
+fn pair_reply(mut p: Pairing, sid: u32, tid: u32) -> Reply
+    ensures { result ≡ next_reply (pair_answer p sid tid) }
 {
-    match outcome {
-        Ok(pairing) => answer(Ok(0), pairing),
-        Err(refused) => answer(Err(refused.refusal), refused.pairing),
-    }
+    let outcome = p.pair_in(sid, tid);
+    answer(outcome.map(|_| 0), p)
+}
+
+// `augment`, likewise.
+fn augment_reply(mut p: Pairing, path: &[u32]) -> Reply
+    ensures { result ≡ next_reply (augment_answer p path.now) }
+{
+    let outcome = p.augment_in(path);
+    answer(outcome.map(|_| 0), p)
 }
 
 // What a code is answered that names no operation.
@@ -110,9 +118,9 @@ pub fn reply_to(p: Pairing, code: u32, ids: &[u32]) -> Reply
     match Kind::try_from(code) {
         Ok(Kind::Order) => answer(p.order().map(u64::from), p),
         Ok(Kind::HasNode) => answer(p.has_node(number_at(ids, 0)).map(u64::from), p),
-        Ok(Kind::Pair) => next_reply(p.pair(number_at(ids, 0), number_at(ids, 1))),
+        Ok(Kind::Pair) => pair_reply(p, number_at(ids, 0), number_at(ids, 1)),
         Ok(Kind::Edges) => answer(p.edges().map(|edges| edges.as_slice().len() as u64), p),
-        Ok(Kind::Augment) => next_reply(p.augment(ids)),
+        Ok(Kind::Augment) => augment_reply(p, ids),
         Ok(Kind::Mate) => answer(p.mate(number_at(ids, 0)).map(u64::from), p),
         Err(unknown) => unknown_reply(p, unknown),
     }

@@ -1,5 +1,5 @@
--- What a chain that counts comes to. Assumes nothing.
-use Prim.Native.Nat.{ℕ, zero, suc, ◌+◌}
+-- A loop that counts, turn by turn, and what a chain that counts comes to. Assumes nothing.
+use Prim.Native.Nat.{ℕ, zero, suc, ◌+◌, ◌≤◌}
 use mathlib.Core.Path.{◌≡◌, refl, ap, ◌∙◌}
 use mathlib.Core.Bool.{Bool, true, false, cond}
 use mathlib.Core.List.{List, [], ◌∷◌}
@@ -9,7 +9,14 @@ use Rattle.std.specs.List.{count_by, filter, range_with_len}
 use Rattle.std.proofs.lemmas.List.FromFn.{length-range_with_len, get_or-range_with_len}
 use Rattle.std.proofs.lemmas.List.Sums.{sum_by-cons, length-filter}
 use Rattle.graphs.specs.Count.{bit, count}
-use Rattle.graphs.proofs.Count.{count-cong}
+use Rattle.graphs.proofs.Count.{count-cong, count-step}
+
+module _ (P : ℕ → Bool) (i : ℕ) where
+  pub counted : (k m : ℕ) (b : Bool) → k ≡ count i P → b ≡ P i → m ≡ bit b + k → m ≡ count (i + 1) P
+  counted k m b p q r = omega (arith, count-step P i, ap bit q)
+
+  pub all-counted : (n k : ℕ) → i ≤ n → n ≤ i → k ≡ count i P → k ≡ count n P
+  all-counted n k h l p = let e : i ≡ n = omega arith in rw e at p
 
 -- counted from the front
 count-front : (n : ℕ) (P : ℕ → Bool) → count (suc n) P ≡ bit (P 0) + count n (λ v. P (suc v))

@@ -1,2 +1,2 @@
--- For the crates above: Counted (what a chain that counts comes to).
+-- For the crates above: Counted (what a loop and a chain that count come to).
 pub mod Counted

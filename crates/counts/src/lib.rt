@@ -40,9 +40,11 @@ impl Cut<'_> {
     fn part_size(&self, r: u32) -> u32
         ensures { result ≡ count (length self.now.names.now) (in_part self.now.names.now (in_set self.now.set.now) r) }
     {
-        (0..self.names.len())
-            .filter(|v| self.in_part(r, *v))
-            .count() as u32
+        let mut k = 0;
+        for v in 0..self.names.len() {
+            k += u32::from(self.in_part(r, v));
+        }
+        k
     }
 
     // Whether r names a part that has an odd number of routes.

@@ -63,5 +63,5 @@ module _ (os : List Operation) (p₀ : Pairing) (l₀ : Laid) (p : Pairing) (l :
       let none_left : drop n os ≡ [] = drop_of_length-le os {i = n} (omega arith) in
       (rw none_left at h.pairing, rw none_left at h.answers)
 
-pub answers-end : (s t : List ℕ) (i : ℕ) (xs : List ℕ) → laid s i ≡ lay (laid t 0) xs → s ≡ sets t 0 xs
-answers-end s t i xs e = ap (λ (l : Laid). l.numbers) e ∙ lay-sets t 0 xs
+pub answers-end : (s t : List ℕ) (i j : ℕ) (xs : List ℕ) → laid s i ≡ lay (laid t j) xs → s ≡ sets t j xs
+answers-end s t i j xs e = ap (λ (l : Laid). l.numbers) e ∙ lay-sets t j xs

@@ -33,6 +33,13 @@ impl<'a> Answers<'a> {
         Answers { numbers, place }
     }
 
+    // The place of the next number.
+    pub fn place(&self) -> usize
+        ensures { result ≡ (laid_in self.now).place }
+    {
+        self.place
+    }
+
     // One number, if there is room for it.
     fn put(&mut self, x: u64)
         ensures { Lays self.old self.new (x ∷ []) }

@@ -21,23 +21,29 @@ pub struct Edge {
 }
 
 // Pairs: a count beside a table of fixed size, since nothing is allocated. A contract sees the list of the pairs that there
-// are; what the table holds past the count cannot be read.
-#[derive(Drop)]
+// are. Past the count the table holds none, so that the list says all that there is, and pairs can be copied.
+#[derive(Clone, Copy)]
 pub struct Edges {
     count: usize,
     pairs: [Edge; HALF],
 }
 
 impl Model for Edges {
-    ghost use Rattle.std.specs.Prelude.{◌/◌, ◌≤◌, List, take};
+    ghost use Rattle.std.specs.Prelude.{◌≡◌, ◌/◌, ◌≤◌, List, length, take};
+    ghost use Rattle.std.proofs.Common.{arith, length-take-le};
     ghost use Rattle.limits.specs.Limits.{routes};
     ghost use Rattle.listing.specs.declared.Edge.{Edge};
+    ghost use Rattle.listing.specs.Listing.{padded};
 
     ghost Value = { List Edge };
 
     ghost view = { λ e. take e.count e.pairs };
 
-    ghost invariant = { λ e. e.count ≤ routes / 2 };
+    ghost invariant = { λ e. (e.count ≤ routes / 2) × (length e.pairs ≡ routes / 2) × (padded (take e.count e.pairs) ≡ e.pairs) };
+
+    ghost inverse = { λ es. record { count = length es; pairs = padded es } };
+
+    ghost inverse_ok = { λ e h i. record { count = length-take-le e.count e.pairs (omega (arith, h.0, h.1)) i; pairs = h.2 i } };
 }
 
 impl Edges {

@@ -38,7 +38,7 @@ module _ (ps : List ℕ) (n : ℕ) (e : length ps ≡ routes) where
     both : (pairing_reply ps n ≡ accepted) × (r ≡ accepted)
     both = first-accepted (pairing_reply ps n) r (rw (← h) refl)
 
-    first-ready : Sound ps × (n ≡ count_of ps)
+    pub first-ready : Sound ps × (n ≡ count_of ps)
     first-ready = sound-ready (sym both.0)
 
     pub pair-ready : (a b : ℕ) → r ≡ pair_reply a b → Sound ps × (n ≡ count_of ps) × (a < routes) × (b < routes) × (a ≢ b)

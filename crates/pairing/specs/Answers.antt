@@ -29,6 +29,11 @@ abbrev pub next : Reply → Pairing → List ℕ → Result Pairing Refused
 next (Ok _) p ps = Ok (kept ps)
 next (Err r) p ps = Err (record { refusal = r; pairing = p })
 
+-- what an operation in place hands on, by its reply and the pairing that it leaves
+abbrev pub handed : Reply → Pairing → Result Pairing Refused
+handed (Ok _) p = Ok p
+handed (Err r) p = Err (record { refusal = r; pairing = p })
+
 -- `pair`: the first id is position 0, the second 1
 unfoldable pub pair_answer : Pairing → ℕ → ℕ → Result Pairing Refused
 pair_answer p a b = next (reply_to p (pair_reply a b)) p (paired p.partner a b)

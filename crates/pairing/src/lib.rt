@@ -9,10 +9,11 @@ ghost use Rattle.std.specs.Prelude.{◌≡◌, ℕ, ◌<◌, get_or};
 ghost use Rattle.limits.specs.Limits.{routes, none};
 ghost use Rattle.mates.specs.Partners.{fresh};
 ghost use Rattle.checks.specs.Checks.{pairing_reply};
-ghost use Rattle.pairing.specs.Answers.{kept, pair_answer, augment_answer, order_answer, has_node_answer, mate_answer, edges_answer};
+ghost use Rattle.pairing.specs.Answers.{kept, pair_answer, augment_answer, order_answer, has_node_answer, mate_answer, edges_answer, handed};
 
 use checks::{id_refusal, mate_refusal, pair_refusal, pairing_refusal};
 use joins::{join, join_all};
+pub use limits::tell;
 use limits::{NONE, ROUTES};
 use listing::list_all;
 pub use listing::{Edge, Edges, HALF};
@@ -76,14 +77,24 @@ impl Pairing {
     pub fn pair(mut self, sid: u32, tid: u32) -> Result<Self, Refused>
         ensures { result ≡ pair_answer self sid tid }
     {
-        if let Err(refusal) = self.check().and(pair_refusal(sid, tid)) {
-            return Err(Refused {
+        match self.pair_in(sid, tid) {
+            Ok(()) => Ok(self),
+            Err(refusal) => Err(Refused {
                 refusal,
                 pairing: self,
-            });
+            }),
+        }
+    }
+
+    // The same in place: a refusal leaves the pairing as it is.
+    pub fn pair_in(&mut self, sid: u32, tid: u32) -> Reply
+        ensures { handed result self.new ≡ pair_answer self.old sid tid }
+    {
+        if let Err(refusal) = self.check().and(pair_refusal(sid, tid)) {
+            return Err(refusal);
         }
         self.count = join(&mut self.partner, self.count, sid, tid);
-        Ok(self)
+        Ok(())
     }
 
     // The pairs by lower id, rising.
@@ -98,14 +109,24 @@ impl Pairing {
     pub fn augment(mut self, path: &[u32]) -> Result<Self, Refused>
         ensures { result ≡ augment_answer self path.now }
     {
-        if let Err(refusal) = self.check().and(path_refusal(path)) {
-            return Err(Refused {
+        match self.augment_in(path) {
+            Ok(()) => Ok(self),
+            Err(refusal) => Err(Refused {
                 refusal,
                 pairing: self,
-            });
+            }),
+        }
+    }
+
+    // The same in place: a refusal leaves the pairing as it is.
+    pub fn augment_in(&mut self, path: &[u32]) -> Reply
+        ensures { handed result self.new ≡ augment_answer self.old path.now }
+    {
+        if let Err(refusal) = self.check().and(path_refusal(path)) {
+            return Err(refusal);
         }
         self.count = join_all(&mut self.partner, self.count, path);
-        Ok(self)
+        Ok(())
     }
 
     // The partner of an id.

@@ -8,13 +8,16 @@ use asked::{Kind, Reply, reply_to};
 use lent::{Operation, Operations, number_at};
 use pairing::{Edge, Pairing};
 use samples::with_digit;
-use std::alloc::{AllocError, Global};
+use std::alloc::Global;
 use std::fs::File;
 use std::io;
 use std::io::{BufWriter, Read, Write};
 
 // The most bytes of the sample, and one more.
 const BYTES: usize = 131072;
+
+// Room for the sample's numbers: each of them takes a digit, and a byte that parts it from the next.
+const NUMBERS: usize = BYTES / 2;
 
 // The operations, in the order of their codes.
 const NAMES: [&str; 6] = ["order", "has_node", "pair", "edges", "augment", "mate"];
@@ -50,20 +53,21 @@ struct Counted {
     differences: u64,
 }
 
-// The numbers of a text, in order: what is no digit parts them, and a comment runs from # to the end of its line. Digits that
-// the text ends with are passed over, since nothing says that their number ends there.
-fn numbers_of(alloc: Global, text: &[u8]) -> Result<Vec<u32>, AllocError> {
-    let mut numbers = Vec::new(alloc);
+// The numbers of a text, in order, in the room that is lent: what is no digit parts them, and a comment runs from # to the end
+// of its line. Digits that the text ends with are passed over, since nothing says that their number ends there.
+fn numbers_of<'a>(text: &[u8], room: &'a mut [u32; NUMBERS]) -> &'a [u32] {
+    let mut count = 0;
     let whole = text.rsplitn(2, |b| !b.is_ascii_digit()).nth(1);
     for line in whole.unwrap_or(&[]).split(|b| *b == b'\n') {
         let told = line.split(|b| *b == b'#').next().unwrap_or(line);
         for word in told.split(|b| !b.is_ascii_digit()) {
-            if !word.is_empty() {
-                numbers.push(word.iter().fold(0, |x, digit| with_digit(x, *digit)))?;
+            if !word.is_empty() && count < NUMBERS {
+                room[count] = word.iter().fold(0, |x, digit| with_digit(x, *digit));
+                count += 1;
             }
         }
     }
-    Ok(numbers)
+    room.get(..count).unwrap_or_default()
 }
 
 // The first of some numbers, as many as are there, and those behind them.
@@ -198,8 +202,8 @@ fn replay_file<R: Read + Drop, W: Write>(alloc: Global, out: &mut W, file: R) ->
     if BYTES <= text.len() {
         return writeln!(out, "the sample is too long");
     }
-    let numbers = numbers_of(alloc, &text)?;
-    replay_all(&numbers).report(out)
+    let mut room = [0; NUMBERS];
+    replay_all(numbers_of(&text, &mut room)).report(out)
 }
 
 // Where the file does not open, that is told on standard error.

@@ -1,6 +1,6 @@
 -- The text that the planner's program writes for an input: document 01, "Layouts to run". Nothing is left open. Its lines stand in Lines of the crate lines.
 -- Assumes nothing.
-use Rattle.std.specs.Prelude.{ℕ, ◌*◌, cond, List, [], ◌∷◌, ◌++◌, ltb, length, replicate, is_err}
+use Rattle.std.specs.Prelude.{ℕ, ◌*◌, ◌≤◌, ◌≡◌, cond, List, [], ◌∷◌, ◌++◌, ltb, length, take, drop, replicate, is_err}
 use Rattle.graphs.specs.Pairing.{unpaired}
 use Rattle.rows.specs.Sheet.{order, graph_of}
 use Rattle.causes.specs.Given.{mate_of}
@@ -38,3 +38,11 @@ unfoldable pub text_of : List ℕ → List ℕ
 text_of s =
     let text = plan_text s (no_pairs s) (no_members s) in
     cond (ltb 65536 (length s)) too_long text
+
+-- what a call leaves: the text at the start of the lent bytes, with its length r, and after it what was there
+pub record Reports (s out out' : List ℕ) (r : ℕ) : Type 0 where
+  pub long : r ≡ length (text_of s)
+  pub written : out' ≡ text_of s ++ drop r out
+  -- both follow; they are stated so that a caller can lend the first r bytes on
+  pub fits : r ≤ length out'
+  pub first : r ≡ length (take r out')

@@ -6,13 +6,13 @@ ghost use Rattle.std.specs.Prelude.{◌≡◌, min};
 ghost use Rattle.limits.specs.Limits.{routes};
 ghost use Rattle.text.specs.Put.{followed_by};
 ghost use Rattle.report.specs.Start.{unpaired_start, empty_set};
-ghost use Rattle.report.specs.Text.{plan_text, text_of};
+ghost use Rattle.report.specs.Text.{plan_text, text_of, Reports};
 
 use improve::improve;
 use limits::{ROUTES, Told};
 use lines::{put_counts, put_over, put_pairs, put_refusal};
 use rows::order;
-use text::Text;
+pub use text::{ROOM, Text};
 
 // The most bytes that are looked at.
 const INPUT: usize = 65536;
@@ -73,4 +73,11 @@ pub fn report(input: &[u8]) -> Text
     let mut witness = no_members();
     put_plan(&mut text, input, &mut pairing[..4 * n], &mut witness[..n]);
     text
+}
+
+// The text for an input, at the start of `out`; its length is answered, and the bytes after it stay as they are.
+pub fn report_to(input: &[u8], out: &mut [u8; ROOM]) -> usize
+    ensures { Reports input.now out.old out.new result }
+{
+    report(input).copy_to(out)
 }

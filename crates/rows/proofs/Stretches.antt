@@ -17,12 +17,12 @@ use Rattle.graphs.proofs.Graph.{has-head, has-tail, has-cases}
 use Rattle.words.specs.Words.{numbers}
 use Rattle.rows.specs.Sheet.{order, start, slot, part, stretch, graph_of}
 use Rattle.rows.specs.Lookup.{place, place_in, neighbors_of, unknown}
+use Rattle.rows.specs.declared.Stretch.{Stretch}
 use Rattle.rows.specs.declared.UnknownId.{UnknownId}
 use Rattle.std.specs.Prelude.{Option, Some, None, is_some, Ok, Err}
 use Rattle.std.specs.List.{position, position_or_len}
 use Rattle.std.specs.Option.{UnwrapsOrElse}
 use Rattle.std.specs.Slice.{IsGetRangeResult}
-use Rattle.std.specs.declared.ops.Range.{Range}
 use Rattle.std.proofs.Common.{Bor}
 use Rattle.words.proofs.Bytes.{numbers-length}
 
@@ -38,11 +38,11 @@ part-got s a e None r h u =
     h.0
 
 -- the part between the two places that `neighbors` answers is the row
-pub row-there : (s : List ℕ) (v : ℕ) (at : Range ℕ) → neighbors_of s v ≡ Ok at → part s at.start at.end ≡ stretch s v
+pub row-there : (s : List ℕ) (v : ℕ) (at : Stretch) → neighbors_of s v ≡ Ok at → part s at.from at.to ≡ stretch s v
 unfolding neighbors_of stretch
 row-there s v at h = cases (ltb v (order s))
-    (λ t. let h' : Ok (record { start = slot s (start s v); end = slot s (start s (v + 1)) }) ≡ Ok at = rw t at h in
-    let p : record { start = slot s (start s v); end = slot s (start s (v + 1)) } ≡ at = cc in
+    (λ t. let h' : Ok (record { from = slot s (start s v); to = slot s (start s (v + 1)) }) ≡ Ok at = rw t at h in
+    let p : record { from = slot s (start s v); to = slot s (start s (v + 1)) } ≡ at = cc in
     rw (t, ← p))
     (λ t. let h' : Err (unknown v) ≡ Ok at = rw t at h in cc)
 
@@ -50,7 +50,7 @@ row-there s v at h = cases (ltb v (order s))
 pub row-none : (s : List ℕ) (v : ℕ) (e : UnknownId) → neighbors_of s v ≡ Err e → [] ≡ stretch s v
 unfolding neighbors_of stretch
 row-none s v e h = cases (ltb v (order s))
-    (λ t. let h' : Ok (record { start = slot s (start s v); end = slot s (start s (v + 1)) }) ≡ Err e = rw t at h in cc)
+    (λ t. let h' : Ok (record { from = slot s (start s v); to = slot s (start s (v + 1)) }) ≡ Err e = rw t at h in cc)
     (λ t. rw t)
 
 -- the least that passes: number 0, or the least of those above it
@@ -105,10 +105,15 @@ place-has row x = same_test (ltb (place row x) (length row)) (has row x)
 pub place-joined : (s row : List ℕ) (v w p : ℕ) → row ≡ stretch s v → p ≡ place (numbers row) w → joined (graph_of s) v w ≡ ltb p (length row / 4)
 place-joined s row v w p er ep = rw (ep, ← numbers-length row, place-has (numbers row) w, er)
 
--- the same of the place where it stands
-pub place_in-has : (row : List ℕ) (x : ℕ) → is_some (place_in row x) ≡ has row x
+-- the same of the place where it stands: there is one where the first place is within the row
+place_in-within : (row : List ℕ) (x : ℕ) → is_some (place_in row x) ≡ ltb (place row x) (length row)
 unfolding place_in
-place_in-has row x = cases (ltb (place row x) (length row)) (λ t. rw t (sym t ∙ place-has row x)) (λ t. rw t (sym t ∙ place-has row x))
+place_in-within row x = cases (ltb (place row x) (length row)) (λ t. rw t refl) (λ t. rw t refl)
+
+pub place_in-has : (row : List ℕ) (x : ℕ) → is_some (place_in row x) ≡ has row x
+place_in-has row x = place_in-within row x ∙ place-has row x
 
 pub place_in-joined : (s row : List ℕ) (v w : ℕ) (at : Option ℕ) → row ≡ stretch s v → at ≡ place_in (numbers row) w → joined (graph_of s) v w ≡ is_some at
-place_in-joined s row v w at er ea = rw (ea, place_in-has (numbers row) w, er)
+place_in-joined s row v w at er ea =
+    let p = place (numbers row) w in
+    rw (ea, place_in-within (numbers row) w, numbers-length row) (place-joined s row v w p er refl)

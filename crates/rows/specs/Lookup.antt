@@ -1,9 +1,9 @@
 -- What is answered about a row.
 use Rattle.std.specs.Prelude.{ℕ, ◌+◌, cond, List, length, get_or, eqb, ltb, Option, Some, None, Result, Ok, Err}
-use Rattle.std.specs.declared.ops.Range.{Range}
 use Rattle.limits.specs.Limits.{none}
 use Rattle.graphs.specs.Count.{least}
 use Rattle.rows.specs.Sheet.{order, start, slot}
+use Rattle.rows.specs.declared.Stretch.{Stretch}
 use Rattle.rows.specs.declared.UnknownId.{UnknownId}
 
 -- the first place of x in the row; the row's length where it does not stand there
@@ -19,8 +19,8 @@ abbrev pub unknown : ℕ → UnknownId
 unknown v = record { id = v }
 
 -- where the bytes of row v begin and end, or that there is no route v
-unfoldable pub neighbors_of : List ℕ → ℕ → Result (Range ℕ) UnknownId
+unfoldable pub neighbors_of : List ℕ → ℕ → Result Stretch UnknownId
 neighbors_of s v =
     cond (ltb v (order s))
-    (Ok (record { start = slot s (start s v); end = slot s (start s (v + 1)) }))
+    (Ok (record { from = slot s (start s v); to = slot s (start s (v + 1)) }))
     (Err (unknown v))

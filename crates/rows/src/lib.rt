@@ -8,13 +8,19 @@ ghost use Rattle.words.specs.Words.{numbers};
 ghost use Rattle.rows.specs.Sheet.{order, part, stretch};
 ghost use Rattle.rows.specs.Lookup.{place_in, neighbors_of};
 
-use std::ops::Range;
 use words::{numbers_of, word_at};
 
 // An id that is no route.
 #[derive(Clone, Copy)]
 pub struct UnknownId {
     pub id: u32,
+}
+
+// Where a row stands in the sheet: from a byte on, and before another.
+#[derive(Clone, Copy)]
+pub struct Stretch {
+    pub from: usize,
+    pub to: usize,
 }
 
 // The number of routes.
@@ -25,14 +31,14 @@ pub fn order(s: &[u8]) -> u32
 }
 
 // The bytes at these places, none where there are no such bytes.
-fn part_of(s: &[u8], at: Range<usize>) -> &[u8]
-    ensures { result.now ≡ part s.now at.start at.end }
+fn part_of(s: &[u8], at: Stretch) -> &[u8]
+    ensures { result.now ≡ part s.now at.from at.to }
 {
-    s.get(at).unwrap_or_default()
+    s.get(at.from..at.to).unwrap_or_default()
 }
 
-// Where the neighbours of an id stand in the sheet, from a byte on and before another.
-pub fn neighbors(s: &[u8], id: u32) -> Result<Range<usize>, UnknownId>
+// Where the neighbours of an id stand.
+pub fn neighbors(s: &[u8], id: u32) -> Result<Stretch, UnknownId>
     ensures { result ≡ neighbors_of s.now id }
 {
     let n = order(s);
@@ -43,9 +49,9 @@ pub fn neighbors(s: &[u8], id: u32) -> Result<Range<usize>, UnknownId>
     let next = id as usize + 1;
     let a = word_at(s, next) as usize;
     let e = word_at(s, next + 1) as usize;
-    Ok(Range {
-        start: 8 + 4 * rows + 4 * a,
-        end: 8 + 4 * rows + 4 * e,
+    Ok(Stretch {
+        from: 8 + 4 * rows + 4 * a,
+        to: 8 + 4 * rows + 4 * e,
     })
 }
 

@@ -9,7 +9,6 @@
 use limits::{NONE, ROUTES};
 use samples::{LARGE, front, is_told, number_from, put_all, put_entry, sheet_length};
 use search::searched;
-use std::alloc::Global;
 use std::io;
 use std::io::{BufWriter, Read, Write};
 use tables::{INNER, UNREACHED, put};
@@ -136,19 +135,11 @@ fn search_on<W: Write>(out: &mut W, yard: &Yard, partners: &mut [u32; ROUTES]) -
     Ok(())
 }
 
-// The edges of a list: three bytes to each, and two to the last.
-fn edges_of(alloc: Global, list: &[u8]) -> io::Result<Vec<Edge>> {
-    let mut edges = Vec::new(alloc);
-    for edge in list.chunks(3).filter_map(Edge::read) {
-        edges.push(edge)?;
-    }
-    Ok(edges)
-}
-
-// Row v by the edges, from entry number `first` on. The answer is the number of the next row's first entry.
-fn put_row(s: &mut [u8; LARGE], n: u32, first: u32, v: u32, edges: &[Edge]) -> u32 {
+// Row v by the edges of a list, from entry number `first` on. Three bytes of the list are an edge, and two are the last. The
+// answer is the number of the next row's first entry.
+fn put_row(s: &mut [u8; LARGE], n: u32, first: u32, v: u32, edges: &[u8]) -> u32 {
     let mut next = first;
-    for edge in edges {
+    for edge in edges.chunks(3).filter_map(Edge::read) {
         if edge.from == v {
             next = put_entry(s, n, next, edge.to);
         } else if edge.to == v {
@@ -158,8 +149,9 @@ fn put_row(s: &mut [u8; LARGE], n: u32, first: u32, v: u32, edges: &[Edge]) -> u
     next
 }
 
-// The sheet of n routes. The answer is how many entries it has.
-fn put_sheet(s: &mut [u8; LARGE], n: u32, edges: &[Edge]) -> u32 {
+// The sheet of n routes. The list of edges is read anew for each row, so that it needs no room of its own. The answer is how
+// many entries the sheet has.
+fn put_sheet(s: &mut [u8; LARGE], n: u32, edges: &[u8]) -> u32 {
     put_word(s, 0, n);
     put_word(s, 1, 0);
     let mut next = 0;
@@ -170,18 +162,19 @@ fn put_sheet(s: &mut [u8; LARGE], n: u32, edges: &[Edge]) -> u32 {
     next
 }
 
-// The searches on the layout of a line, from the pairs of its start.
-fn search_line<W: Write>(alloc: Global, out: &mut W, line: &[u8]) -> io::Result<()> {
+// The searches on the layout of a line, from the pairs of its start. The tables come first: made behind the reading, the
+// sheet's megabyte would be filled twice.
+fn search_line<W: Write>(out: &mut W, line: &[u8]) -> io::Result<()> {
+    let mut s = [0; LARGE];
+    let mut partners = [NONE; ROUTES];
     let Layout {
         name,
         routes,
         edges,
         start,
     } = Layout::read(line);
-    let mut s = [0; LARGE];
-    let total = put_sheet(&mut s, routes, &edges_of(alloc, edges)?);
-    let mut partners = [NONE; ROUTES];
-    for pair in &edges_of(alloc, start)? {
+    let total = put_sheet(&mut s, routes, edges);
+    for pair in start.chunks(3).filter_map(Edge::read) {
         put(&mut partners, pair.from, pair.to);
         put(&mut partners, pair.to, pair.from);
     }
@@ -206,7 +199,7 @@ fn main(rt: HostRuntime) -> io::Result<()> {
     let mut out = BufWriter::new(rt.alloc(), io::writer(&rt))?;
     for line in text.split(|byte| *byte == b'\n') {
         if is_told(line) {
-            search_line(rt.alloc(), &mut out, line)?;
+            search_line(&mut out, line)?;
         }
     }
     // one pair more, and no route is left

@@ -2,8 +2,8 @@
 // `specs/Put.antt` says so, and a report always has room.
 #![tactic(auto)]
 
-ghost use Rattle.std.specs.Prelude.{◌≡◌, [], ◌∷◌, ◌+◌, ◌<◌};
-ghost use Rattle.text.specs.Put.{followed_by};
+ghost use Rattle.std.specs.Prelude.{◌≡◌, [], ◌∷◌, ◌++◌, ◌+◌, ◌<◌, ◌≤◌, length, take, drop};
+ghost use Rattle.text.specs.Put.{room, followed_by};
 ghost use Rattle.text.specs.Digits.{digits_in, digits, spaced};
 
 use std::marker::Model;
@@ -41,11 +41,31 @@ impl Text {
         }
     }
 
+    // The text that stands at the start of a room and has so many bytes, all of the room at most.
+    pub fn of(bytes: &[u8; ROOM], len: usize) -> Text
+        ensures { result ≡ take len bytes.now }
+    {
+        Text {
+            bytes: *bytes,
+            len: ROOM.min(len),
+        }
+    }
+
     // The bytes of the text.
     pub fn as_slice(&self) -> &[u8]
         ensures { result.now ≡ self.now }
     {
         &self.bytes[..self.len]
+    }
+
+    // The text written at the start of a room; the bytes behind it stay as they are. The answer is how long it is.
+    pub fn copy_to(&self, out: &mut [u8; ROOM]) -> usize
+        ensures long { result ≡ length self.now }
+        ensures fits { result ≤ room }
+        ensures written { out.new ≡ self.now ++ drop result out.old }
+    {
+        out[..self.len].copy_from_slice(&self.bytes[..self.len]);
+        self.len
     }
 
     // One byte.

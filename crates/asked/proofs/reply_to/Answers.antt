@@ -28,7 +28,7 @@ returns-in-Ok-HasNode c =
 pub returns-in-Ok-Pair : goal.returns-in-Ok-Pair
 returns-in-Ok-Pair c =
     let k = c.in-Ok-Pair in
-    c.next_reply.ensures ∙ ap next_reply (c.pair.ensures ∙ ap₂ (pair_answer c.args.p) c.number_at-in-Ok-Pair.ensures c.number_at-in-Ok-Pair-2.ensures)
+    c.pair_reply.ensures ∙ ap next_reply (ap₂ (pair_answer c.args.p) c.number_at-in-Ok-Pair.ensures c.number_at-in-Ok-Pair-2.ensures)
     ∙ asked-is c.args.p _ c.args.ids.now Pair (rw k.field-0-is at k.ensures)
 
 pub returns-in-Ok-Edges : goal.returns-in-Ok-Edges
@@ -42,7 +42,7 @@ returns-in-Ok-Edges c =
 pub returns-in-Ok-Augment : goal.returns-in-Ok-Augment
 returns-in-Ok-Augment c =
     let k = c.in-Ok-Augment in
-    c.next_reply-in-Ok-Augment.ensures ∙ ap next_reply c.augment.ensures
+    c.augment_reply.ensures
     ∙ asked-is c.args.p _ c.args.ids.now Augment (rw k.field-0-is at k.ensures)
 
 pub returns-in-Ok-Mate : goal.returns-in-Ok-Mate

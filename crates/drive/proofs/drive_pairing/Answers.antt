@@ -16,5 +16,5 @@ returns-clause-answers c =
     let p = c.read_pairing-pairing.ensures in
     let says = said (pairing_of c.args.state.now) (operations c.args.ops.now) in
     let all : c.perform_all-count.new.answers.numbers.now ≡ sets c.args.answers.now 0 says =
-    answers-end _ _ _ says (rw (p, n.nothing) at e.answers.all) in
+    answers-end _ _ _ _ says (rw (p, n.nothing) at e.answers.all) in
     search rules
