@@ -6,7 +6,7 @@ ghost use Rattle.std.specs.Prelude.{◌≡◌, IfSome, IfOk, OnOk, take};
 ghost use Rattle.std.specs.Io.KnownBytes.{Appends};
 ghost use Rattle.report.specs.Text.{text_of};
 
-use report::report;
+use report::{Text, put_report};
 use std::alloc::Global;
 use std::io;
 use std::io::{Read, Write};
@@ -24,10 +24,12 @@ fn read_input<R: Read + Drop>(alloc: Global, from: R) -> io::Result<Vec<u8>>
 }
 
 // Writes what the report says of an input.
+#[tactic(auto, using(report::proofs::Room::reported))]
 fn write_report<W: Write>(input: &[u8], to: &mut W) -> io::Result<()>
     ensures { OnOk result (Appends (W.contents to.old) (W.contents to.new) (text_of input.now)) }
 {
-    let text = report(input);
+    let mut text = Text::new();
+    put_report(&mut text, input);
     to.write_all(text.as_slice())
 }
 

@@ -6,7 +6,7 @@ ghost use Rattle.std.specs.Prelude.{OnOk};
 ghost use Rattle.std.specs.Io.KnownBytes.{Appends};
 ghost use Rattle.report.specs.Text.{text_of};
 
-use report::report;
+use report::{Text, put_report};
 use std::io;
 use std::io::{BufWriter, Write};
 
@@ -14,10 +14,12 @@ use std::io::{BufWriter, Write};
 const INPUT: usize = 65537;
 
 // Writes what the report says of an input.
+#[tactic(auto, using(report::proofs::Room::reported))]
 fn given<W: Write>(to: &mut W, input: &[u8]) -> io::Result<()>
     ensures { OnOk result (Appends (W.contents to.old) (W.contents to.new) (text_of input.now)) }
 {
-    let text = report(input);
+    let mut text = Text::new();
+    put_report(&mut text, input);
     to.write_all(text.as_slice())
 }
 

@@ -1,10 +1,12 @@
 -- Every text has room: how long the lines are. Assumes nothing.
 use Prim.Native.Nat.{ℕ, zero, suc, ◌+◌, ◌*◌, ◌/◌, ◌≤◌, ◌<◌}
 use mathlib.Core.Bool.{◌&&◌}
-use mathlib.Core.List.{List, ◌++◌}
+use mathlib.Core.Path.{◌≡◌, ◌∙◌}
+use mathlib.Core.List.{List, [], ◌++◌}
 use native.Mathlib.Omega.{arith}
 use lib.Dec.{ltb}
 use lib.ListN.{length, length-append}
+use lib.Seq.{take_all}
 use borrow.Author.Tests.{lt-ltb}
 use Rattle.std.specs.Prelude.{is_err}
 use Rattle.limits.specs.Limits.{routes}
@@ -17,7 +19,7 @@ use Rattle.causes.specs.Given.{mate_of, set_of}
 use Rattle.verdicts.specs.Verdict.{told_of}
 use Rattle.witness.specs.Verdict.{improve_verdict}
 use Rattle.witness.proofs.Checker.{begins}
-use Rattle.text.specs.Put.{room}
+use Rattle.text.specs.Put.{room, followed_by}
 use Rattle.text.specs.Digits.{digits_in, digits, spaced}
 use Rattle.lines.specs.Lines.{each, refusal, counts, pair_line, pair_lines, member, over_line}
 use Rattle.report.specs.Text.{plan_text, text_of}
@@ -102,3 +104,8 @@ plan-most s p w = cases (is_err (improve_verdict s p w))
 pub text-most : (s : List ℕ) → length (text_of s) ≤ room
 unfolding text_of
 text-most s = cases (ltb 65536 (length s)) (λ h. rw h (omega arith)) (λ h. rw h (plan-most s _ _))
+
+-- so that what is put into an empty text is all of it
+pub reported : (s t u : List ℕ) → u ≡ [] → t ≡ followed_by u (text_of s) → t ≡ text_of s
+unfolding followed_by
+reported s t u eu h = h ∙ rw eu (take_all room (text_of s) (text-most s))

@@ -2,11 +2,10 @@
 use Prim.Native.Nat.{ℕ, zero, suc, ◌+◌, ◌-◌, ◌*◌, ◌≤◌, ◌<◌, min}
 use mathlib.Core.Path.{◌≡◌, refl, sym, ap, ◌∙◌}
 use mathlib.Core.Bool.{true}
-use mathlib.Core.List.{List, [], ◌∷◌, ◌++◌}
+use mathlib.Core.List.{List, ◌∷◌, ◌++◌}
 use native.Mathlib.Omega.{arith}
 use lib.Dec.{ltb}
 use lib.ListN.{length, take, replicate, length-replicate}
-use lib.Seq.{take_all}
 use borrow.Author.Tests.{ltb-true, ltb-false, lt-ltb, le-ltb}
 use Rattle.std.specs.Prelude.{Err, is_err}
 use Rattle.limits.specs.Limits.{routes}
@@ -26,12 +25,11 @@ use Rattle.verdicts.specs.declared.Refusal.{Refusal}
 use Rattle.witness.proofs.Checker.{passed-sheet, begins}
 use Rattle.buffers.specs.Held.{size_of, sessions_of}
 use Rattle.improve.specs.Promise.{Means, Improve}
-use Rattle.text.specs.Put.{room, followed_by}
+use Rattle.text.specs.Put.{followed_by}
 use Rattle.text.proofs.Putting.{then}
 use Rattle.lines.specs.Lines.{refusal, counts, pair_lines, over_line}
 use Rattle.report.specs.Text.{no_limit, too_long, plan_text, text_of, no_pairs, no_members}
 use Rattle.report.specs.Start.{unpaired_start, empty_set}
-use Rattle.report.proofs.Room.{text-most}
 
 -- three things one after the other
 three : (t a b u xs ys zs : List ℕ) → a ≡ followed_by t xs → b ≡ followed_by a ys → u ≡ followed_by b zs → u ≡ followed_by t (xs ++ ys ++ zs)
@@ -113,18 +111,15 @@ start-text s m em = cases (ltb routes (order s))
     let e : m ≡ order s = omega arith in
     rw (start_is m (omega arith), set_is m (omega arith), e) refl)
 
--- what is put into an empty text: all of it, since it has room
-module _ (s t : List ℕ) where
-  reported : (u xs : List ℕ) → xs ≡ text_of s → u ≡ [] → t ≡ followed_by u xs → t ≡ text_of s
-  unfolding followed_by
-  reported u xs e eu h = h ∙ rw (eu, e) (take_all room (text_of s) (text-most s))
-
-  pub report-long : (u : List ℕ) → 65536 < length s → u ≡ [] → t ≡ followed_by u too_long → t ≡ text_of s
+-- what is put for an input is its text
+module _ (s t u : List ℕ) where
+  pub report-long : 65536 < length s → t ≡ followed_by u too_long → t ≡ followed_by u (text_of s)
   unfolding text_of
-  report-long u g eu h = reported u too_long (rw (lt-ltb 65536 (length s) g) refl) eu h
+  report-long g h = rw (lt-ltb 65536 (length s) g) h
 
-  pub report-plan : (u p w : List ℕ) (n m : ℕ) → length s ≤ 65536 → n ≡ order s → m ≡ min n routes → p ≡ unpaired_start → w ≡ empty_set → u ≡ [] → t ≡ followed_by u (plan_text s (take (4 * m) p) (take m w)) → t ≡ text_of s
+  pub report-plan : (p w : List ℕ) (n m : ℕ) → length s ≤ 65536 → n ≡ order s → m ≡ min n routes → p ≡ unpaired_start → w ≡ empty_set → t ≡ followed_by u (plan_text s (take (4 * m) p) (take m w)) → t ≡ followed_by u (text_of s)
   unfolding text_of
-  report-plan u p w n m g en em ep ew eu h =
+  report-plan p w n m g en em ep ew h =
       let start = start-text s m (em ∙ ap (λ (k : ℕ). min k routes) en) in
-      reported u _ (rw (le-ltb 65536 (length s) g, ep, ew) start) eu h
+      let e : plan_text s (take (4 * m) p) (take m w) ≡ plan_text s (no_pairs s) (no_members s) = rw (ep, ew) start in
+      rw (le-ltb 65536 (length s) g, ← e) h

@@ -59,19 +59,26 @@ fn at_most(n: u32) -> usize
     ROUTES.min(n as usize)
 }
 
+// The text for an input, put behind what a text holds.
+pub fn put_report(text: &mut Text, input: &[u8])
+    ensures { text.new ≡ followed_by text.old (text_of input.now) }
+{
+    if INPUT < input.len() {
+        text.put_word(b"too long\n");
+        return;
+    }
+    let n = at_most(order(input));
+    let mut pairing = no_pairs();
+    let mut witness = no_members();
+    put_plan(text, input, &mut pairing[..4 * n], &mut witness[..n]);
+}
+
 // The text for an input.
 pub fn report(input: &[u8]) -> Text
     ensures { result ≡ text_of input.now }
 {
     let mut text = Text::new();
-    if INPUT < input.len() {
-        text.put_word(b"too long\n");
-        return text;
-    }
-    let n = at_most(order(input));
-    let mut pairing = no_pairs();
-    let mut witness = no_members();
-    put_plan(&mut text, input, &mut pairing[..4 * n], &mut witness[..n]);
+    put_report(&mut text, input);
     text
 }
 

@@ -1,9 +1,6 @@
--- `report` meets its contract. Assumes nothing.
-use Rattle.report.proofs.Whole.{report-long, report-plan}
+-- `report` meets its contract: what is put into an empty text is all of it. Assumes nothing.
+use Rattle.report.proofs.Room.{reported}
 use Rattle.report.proofs.report.Goals as goal
 
-pub returns-then-input-gt-INPUT : goal.returns-then-input-gt-INPUT
-returns-then-input-gt-INPUT c = report-long _ _ _ c.if-input-gt-INPUT.true c.new-text.ensures c.put_word.ensures
-
 pub returns : goal.returns
-returns c = report-plan _ _ _ _ _ _ _ c.if-input-gt-INPUT.false c.order.ensures c.at_most-n.ensures c.no_pairs-pairing.ensures c.no_members-witness.ensures c.new-text.ensures c.put_plan.ensures
+returns c = reported _ _ _ c.new-text.ensures c.put_report.ensures
