@@ -30,7 +30,7 @@ pub struct Edges {
 
 impl Model for Edges {
     ghost use Rattle.std.specs.Prelude.{◌≡◌, ◌/◌, ◌≤◌, List, length, take};
-    ghost use Rattle.std.proofs.Common.{arith, length-take-le};
+    ghost use Rattle.std.proofs.Common.{length-take-le};
     ghost use Rattle.limits.specs.Limits.{routes};
     ghost use Rattle.listing.specs.declared.Edge.{Edge};
     ghost use Rattle.listing.specs.Listing.{padded};
@@ -39,11 +39,11 @@ impl Model for Edges {
 
     ghost view = { λ e. take e.count e.pairs };
 
-    ghost invariant = { λ e. (e.count ≤ routes / 2) × (length e.pairs ≡ routes / 2) × (padded (take e.count e.pairs) ≡ e.pairs) };
+    ghost invariant = { λ e. (e.count ≤ length e.pairs) × (length e.pairs ≡ routes / 2) × (padded (take e.count e.pairs) ≡ e.pairs) };
 
     ghost inverse = { λ es. record { count = length es; pairs = padded es } };
 
-    ghost inverse_ok = { λ e h i. record { count = length-take-le e.count e.pairs (omega (arith, h.0, h.1)) i; pairs = h.2 i } };
+    ghost inverse_ok = { λ e h i. record { count = length-take-le e.count e.pairs h.0 i; pairs = h.2 i } };
 }
 
 impl Edges {

@@ -12,6 +12,6 @@ pub invariant_of-self : goal.invariant_of-self
 invariant_of-self c =
     let s = c.self.inside in
     let i = c.self.invariant in
-    let t : length (take s.count s.pairs) ≡ s.count = length-take-le s.count s.pairs (omega (arith, i.0, i.1)) in
+    let t : length (take s.count s.pairs) ≡ s.count = length-take-le s.count s.pairs i.0 in
     let k : s.count < routes / 2 = omega (arith, c.requires, rw c.self.view_is at t) in
-    (omega (arith, k), length-set s.pairs s.count c.args.edge ∙ i.1, one-padded s.pairs s.count k i.1 i.2 c.args.edge)
+    (omega (arith, k, i.1, length-set s.pairs s.count c.args.edge), length-set s.pairs s.count c.args.edge ∙ i.1, one-padded s.pairs s.count k i.1 i.2 c.args.edge)
