@@ -28,12 +28,12 @@ pub struct Cut<'a> {
 }
 
 impl Cut<'_> {
-    // Whether v is outside the set and of the part r.
+    // Whether v is outside the set and of the part r. By `&`: a branch for each route took the checker more time.
     fn in_part(&self, r: u32, v: usize) -> bool
         requires { v < length self.now.names.now }
         ensures { result ≡ in_part self.now.names.now (in_set self.now.set.now) r v }
     {
-        self.set[v] != 1 && self.names[v] == r
+        (self.set[v] != 1) & (self.names[v] == r)
     }
 
     // How many routes are of the part r.
